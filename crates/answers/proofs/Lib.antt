@@ -1,0 +1,4 @@
+pub mod Picks
+pub mod Tests
+pub mod Keeping
+pub mod Outcomes

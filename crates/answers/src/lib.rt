@@ -1,0 +1,104 @@
+// Every answer that is a refusal, and the order in which tests refuse.
+ghost use mathlib.Core.Path.{_≡_};
+ghost use Rattle.answers.specs.Catalogue.{numberOf};
+ghost use Rattle.answers.specs.Tests.{asked};
+
+// Every refusal, by name. Its number is `number`'s to say, and no other place writes it.
+pub enum Refusal {
+    // ELF
+    InvalidElfMagicNumber,
+    BigEndianElfOnLittle,
+    InvalidProgramHeaderSize,
+    InvalidProgramHeaderOffset,
+    InvalidEntryAddress,
+    Overflow,
+    ReadElfHeader,
+    ReadProgramHeader,
+    InvalidProgramHeaderAddress,
+    ReadKernelImage,
+    ReadNoteHeader,
+    InvalidPvhNote,
+    MemoryOverflow,
+    // bzImage
+    InvalidBzImage,
+    Underflow,
+    InvalidKernelStartAddress,
+    ReadBzImageCompressedKernel,
+    // a line put into guest memory
+    InvalidCommandLine,
+    CommandLineOverflow,
+    // a line built
+    InvalidCapacity,
+    InvalidAscii,
+    HasSpace,
+    HasEquals,
+    MissingVal,
+    MmioSize,
+    TooLarge,
+    NoQuoteSpace,
+    InvalidQuote,
+    // a line written
+    NoBootArgsInserted,
+    NullTerminator,
+    // added to the crate's own: limits of what is lent
+    SliceTooLong,
+    BadList,
+    NoRoom,
+}
+
+// The number of a refusal, for callers that take numbers.
+pub fn number(refusal: Refusal) -> u32
+    ensures { λ r. ⌜ r ≡ numberOf refusal ⌝ }
+{
+    match refusal {
+        Refusal::InvalidElfMagicNumber => 1,
+        Refusal::BigEndianElfOnLittle => 2,
+        Refusal::InvalidProgramHeaderSize => 3,
+        Refusal::InvalidProgramHeaderOffset => 4,
+        Refusal::InvalidEntryAddress => 5,
+        Refusal::Overflow => 6,
+        Refusal::ReadElfHeader => 7,
+        Refusal::ReadProgramHeader => 8,
+        Refusal::InvalidProgramHeaderAddress => 9,
+        Refusal::ReadKernelImage => 10,
+        Refusal::ReadNoteHeader => 11,
+        Refusal::InvalidPvhNote => 12,
+        Refusal::MemoryOverflow => 13,
+        Refusal::InvalidBzImage => 21,
+        Refusal::Underflow => 22,
+        Refusal::InvalidKernelStartAddress => 23,
+        Refusal::ReadBzImageCompressedKernel => 24,
+        Refusal::InvalidCommandLine => 31,
+        Refusal::CommandLineOverflow => 32,
+        Refusal::InvalidCapacity => 41,
+        Refusal::InvalidAscii => 42,
+        Refusal::HasSpace => 43,
+        Refusal::HasEquals => 44,
+        Refusal::MissingVal => 45,
+        Refusal::MmioSize => 46,
+        Refusal::TooLarge => 47,
+        Refusal::NoQuoteSpace => 48,
+        Refusal::InvalidQuote => 49,
+        Refusal::NoBootArgsInserted => 50,
+        Refusal::NullTerminator => 51,
+        Refusal::SliceTooLong => 60,
+        Refusal::BadList => 61,
+        Refusal::NoRoom => 62,
+    }
+}
+
+// Where a row of tests stands: open while none has failed, shut by the first that does.
+pub enum Gate {
+    Open,
+    Shut(Refusal),
+}
+
+// One more test: it refuses where it fails and none before it refused.
+pub fn require(gate: Gate, ok: bool, refusal: Refusal) -> Gate
+    ensures { λ r. ⌜ r ≡ asked gate ok refusal ⌝ }
+{
+    match gate {
+        Gate::Shut(first) => Gate::Shut(first),
+        Gate::Open => { if ok { Gate::Open } else { Gate::Shut(refusal) } }
+    }
+}
