@@ -1,4 +1,4 @@
-pub mod Picks
-pub mod Tests
-pub mod Keeping
+pub mod PickLaws
+pub mod TestsLaws
+pub mod KeepingLaws
 pub mod Outcomes

@@ -12,7 +12,7 @@ use Rattle.answers.specs.Keeping.{Keeps, same, lifted, ShutBy, shut-by, 
 use Rattle.answers.specs.declared.Refusal.{Refusal}
 use Rattle.answers.specs.declared.Gate.{Gate}
 use Rattle.answers.specs.declared.Gate.the-variants.{Open, Shut}
-use Rattle.answers.proofs.Tests.{first-held, first-failed, by-first}
+use Rattle.answers.proofs.TestsLaws.{first-held, first-failed, by-first}
 
 module _ {A : Type 0} (Lifts : A → Type 0) where
   pub equal : {a b : A} → b ≡ a → Keeps Lifts a b

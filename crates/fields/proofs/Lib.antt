@@ -1,0 +1,5 @@
+pub mod NumbersLaws
+pub mod TagsLaws
+pub mod RangesLaws
+pub mod CopyingLaws
+pub mod Outcomes

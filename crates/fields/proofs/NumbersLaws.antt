@@ -1,0 +1,56 @@
+-- Laws of little-endian numbers, over the width.
+use Prim.Native.Nat.{ℕ, zero, suc, _+_, _≤_, _<_, _*_, _^_}
+use mathlib.Core.Path.{_≡_, refl, ap, sym, _∙_, subst⁻¹, subst₂}
+use mathlib.Core.List.{List, _++_}
+use native.Mathlib.Omega.{arith}
+use native.Mathlib.Nat.{pow-suc, pow-le-pow-right, lt-of-lt-of-le}
+use lib.ListN.{length, getD, List·getD-append, List·getD-eq-default}
+use Rattle.fields.specs.Numbers.{le, ReadAs}
+
+-- a number of one byte is the byte
+pub le-one : (s : List ℕ) (p : ℕ) → le 1 s p ≡ getD s p 0
+unfolding le
+le-one s p = omega arith
+
+pub byte-read : (s : List ℕ) (p : ℕ) {r : ℕ} → r ≡ getD s p 0 → r < 256 → ReadAs 1 s p r
+byte-read s p e h = record { value = e ∙ sym (le-one s p); small = h }
+
+-- past the end there is 0
+pub byte-past : (s : List ℕ) (p : ℕ) → length s ≤ p → ReadAs 1 s p 0
+byte-past s p h = byte-read s p (sym (List·getD-eq-default s 0 h)) (omega arith)
+
+-- ---- a number read byte by byte, the last byte first
+
+-- no bytes yet
+pub read-none : (n : ℕ) (s : List ℕ) (p : ℕ) → n ≡ 0 → ReadAs n s p 0
+unfolding le
+read-none n s p e = subst⁻¹ (λ (k : ℕ). ReadAs k s p 0) e (record { value = refl; small = omega arith })
+
+-- the same bytes, with the width and the place written another way
+pub read-same : {n m p q v : ℕ} {s : List ℕ} → n ≡ m → p ≡ q → ReadAs n s p v → ReadAs m s q v
+read-same {v = v} {s = s} en ep r = subst₂ (λ (a b : ℕ). ReadAs a s b v) en ep r
+
+-- one more byte, in front
+le-next : (n : ℕ) (s : List ℕ) (p : ℕ) {v b : ℕ} → v ≡ le n s (suc p) → b ≡ getD s p 0 → v * 256 + b ≡ le (suc n) s p
+unfolding le
+le-next n s p ev eb = rw (ev, eb) (omega arith)
+
+small-next : (n : ℕ) {v b : ℕ} → v < 256 ^ n → b < 256 → v * 256 + b < 256 ^ (suc n)
+small-next n hv hb = rw (pow-suc 256 n) (omega arith)
+
+pub read-next : {n m p q v b : ℕ} {s : List ℕ} → m ≡ suc n → q ≡ suc p → ReadAs n s q v → ReadAs 1 s p b → ReadAs m s p (v * 256 + b)
+read-next {n} {m} {p} {q} {v} {b} {s} em eq r byte =
+    subst⁻¹ (λ (k : ℕ). ReadAs k s p (v * 256 + b)) em
+    (record { value = le-next n s p (r .value ∙ ap (le n s) eq) (byte .value ∙ le-one s p); small = small-next n (r .small) (byte .small) })
+
+-- a number of fewer than 8 bytes, with one byte more, fits 64 bits
+pub fits-next : (n : ℕ) (b : ℕ) {v : ℕ} → n < 8 → v < 256 ^ n → b < 256 → v * 256 + b < 2 ^ 64
+fits-next n b hn hv hb = lt-of-lt-of-le (small-next n hv hb) (pow-le-pow-right {n = 256} (omega arith) hn)
+
+-- ---- bytes added at the end
+
+-- a number that stands in s is the same in s and more
+pub le-append : (n : ℕ) (s t : List ℕ) (p : ℕ) → p + n ≤ length s → le n (s ++ t) p ≡ le n s p
+unfolding le
+le-append zero s t p h = refl
+le-append (suc n) s t p h = rw (List·getD-append s t 0 p (omega arith), le-append n s t (suc p) (omega arith))

@@ -1,0 +1,59 @@
+-- Each public function permits one outcome.
+use mathlib.Core.Path.{refl}
+use Rattle.answers.specs.Outcome.{OneOutcome}
+use Rattle.answers.proofs.Outcomes.{meet, first}
+use Rattle.fields.proofs.numbers.wide.Kinds as wide-kinds
+use Rattle.fields.proofs.numbers.wide.Reads as wide-reads
+use Rattle.fields.proofs.numbers.byte_at.Kinds as byte-at-kinds
+use Rattle.fields.proofs.numbers.byte_at.Reads as byte-at-reads
+use Rattle.fields.proofs.numbers.read_u16.Kinds as read-u16-kinds
+use Rattle.fields.proofs.numbers.read_u16.Reads as read-u16-reads
+use Rattle.fields.proofs.numbers.read_u32.Kinds as read-u32-kinds
+use Rattle.fields.proofs.numbers.read_u32.Reads as read-u32-reads
+use Rattle.fields.proofs.numbers.read_u64.Kinds as read-u64-kinds
+use Rattle.fields.proofs.numbers.read_u64.Reads as read-u64-reads
+use Rattle.fields.proofs.tags.is_tag.Kinds as is-tag-kinds
+use Rattle.fields.proofs.tags.is_tag.Reads as is-tag-reads
+use Rattle.fields.proofs.ranges.within.Kinds as within-kinds
+use Rattle.fields.proofs.ranges.within.Reads as within-reads
+use Rattle.fields.proofs.ranges.sum_fits.Kinds as sum-fits-kinds
+use Rattle.fields.proofs.ranges.sum_fits.Reads as sum-fits-reads
+use Rattle.fields.proofs.rounding.align_up.Kinds as align-up-kinds
+use Rattle.fields.proofs.rounding.align_up.Reads as align-up-reads
+use Rattle.fields.proofs.copying.lesser.Kinds as lesser-kinds
+use Rattle.fields.proofs.copying.lesser.Reads as lesser-reads
+use Rattle.fields.proofs.copying.copy.Kinds as copy-kinds
+use Rattle.fields.proofs.copying.copy.Reads as copy-reads
+
+pub wide-one : OneOutcome 0 wide-kinds.ps wide-kinds.r wide-reads.Post
+wide-one κs a z z' ws ws' p q = (meet p q, refl)
+
+pub byte-at-one : OneOutcome 1 byte-at-kinds.ps byte-at-kinds.r byte-at-reads.Post
+byte-at-one κs a z z' ws ws' p q = (meet (p .value) (q .value), refl)
+
+pub read-u16-one : OneOutcome 1 read-u16-kinds.ps read-u16-kinds.r read-u16-reads.Post
+read-u16-one κs a z z' ws ws' p q = (meet (p .value) (q .value), refl)
+
+pub read-u32-one : OneOutcome 1 read-u32-kinds.ps read-u32-kinds.r read-u32-reads.Post
+read-u32-one κs a z z' ws ws' p q = (meet (p .value) (q .value), refl)
+
+pub read-u64-one : OneOutcome 1 read-u64-kinds.ps read-u64-kinds.r read-u64-reads.Post
+read-u64-one κs a z z' ws ws' p q = (meet (p .value) (q .value), refl)
+
+pub is-tag-one : OneOutcome 2 is-tag-kinds.ps is-tag-kinds.r is-tag-reads.Post
+is-tag-one κs a z z' ws ws' p q = (meet p q, refl)
+
+pub within-one : OneOutcome 0 within-kinds.ps within-kinds.r within-reads.Post
+within-one κs a z z' ws ws' p q = (meet p q, refl)
+
+pub sum-fits-one : OneOutcome 0 sum-fits-kinds.ps sum-fits-kinds.r sum-fits-reads.Post
+sum-fits-one κs a z z' ws ws' p q = (meet p q, refl)
+
+pub align-up-one : OneOutcome 0 align-up-kinds.ps align-up-kinds.r align-up-reads.Post
+align-up-one κs a z z' ws ws' p q = (meet p q, refl)
+
+pub lesser-one : OneOutcome 0 lesser-kinds.ps lesser-kinds.r lesser-reads.Post
+lesser-one κs a z z' ws ws' p q = (meet p q, refl)
+
+pub copy-one : OneOutcome 2 copy-kinds.ps copy-kinds.r copy-reads.Post
+copy-one κs a z z' ws ws' p q = (refl, first (meet p q))

@@ -1,0 +1,4 @@
+pub mod Numbers
+pub mod Tags
+pub mod Ranges
+pub mod Rounding

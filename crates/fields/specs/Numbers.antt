@@ -1,0 +1,15 @@
+-- Little-endian numbers at a place.
+use mathlib.Core.Path.{_≡_}
+use mathlib.Core.List.{List}
+use Prim.Native.Nat.{ℕ, zero, suc, _+_, _*_, _^_, _<_}
+use lib.ListN.{getD}
+
+-- the number of n bytes at p, the first byte least; a byte past the end is 0
+unfoldable pub le : ℕ → List ℕ → ℕ → ℕ
+le zero s p = 0
+le (suc n) s p = getD s p 0 + 256 * le n s (suc p)
+
+-- what a reader of n bytes at p answers: their number, which n bytes hold
+pub record ReadAs (n : ℕ) (s : List ℕ) (p r : ℕ) : Type 0 where
+  pub value : r ≡ le n s p
+  pub small : r < 256 ^ n

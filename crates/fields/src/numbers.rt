@@ -1,0 +1,59 @@
+// Little-endian numbers at a place of a slice. A byte past the end counts as 0.
+ghost use mathlib.Core.Path.{_≡_};
+ghost use Prim.Native.Nat.{_+_, _<_, _≤_};
+ghost use lib.ListN.{getD};
+ghost use Rattle.fields.specs.Numbers.{ReadAs};
+
+// A byte as a wide number.
+pub fn wide(byte: u8) -> u64
+    ensures { λ r. ⌜ r ≡ byte ⌝ }
+{
+    byte as u64
+}
+
+// The byte i after a place. Two numbers, so that their sum never wraps.
+pub fn byte_at(s: &[u8], at: u64, i: u64) -> u64
+    ensures { λ r. ⌜ ReadAs 1 (now (s .entry)) (at + i) r ⌝ }
+{
+    let n = s.len() as u64;
+    if n <= at {
+        return 0;
+    }
+    if n - at <= i {
+        return 0;
+    }
+    let k = (at + i) as usize;
+    wide(s[k])
+}
+
+// The number of `width` bytes at a place: every reader below is this one.
+fn read_le(s: &[u8], at: u64, width: u64) -> u64
+    requires { ⌜ width ≤ 8 ⌝ }
+    ensures { λ r. ⌜ ReadAs width (now (s .entry)) at r ⌝ }
+{
+    let mut v: u64 = 0;
+    let mut i = width;
+    while 0 < i {
+        i -= 1;
+        v = v * 256 + byte_at(s, at, i);
+    }
+    v
+}
+
+pub fn read_u16(s: &[u8], at: u64) -> u64
+    ensures { λ r. ⌜ ReadAs 2 (now (s .entry)) at r ⌝ }
+{
+    read_le(s, at, 2)
+}
+
+pub fn read_u32(s: &[u8], at: u64) -> u64
+    ensures { λ r. ⌜ ReadAs 4 (now (s .entry)) at r ⌝ }
+{
+    read_le(s, at, 4)
+}
+
+pub fn read_u64(s: &[u8], at: u64) -> u64
+    ensures { λ r. ⌜ ReadAs 8 (now (s .entry)) at r ⌝ }
+{
+    read_le(s, at, 8)
+}

@@ -1,0 +1,20 @@
+// Sums of a place and a size, reckoned as whole numbers.
+ghost use mathlib.Core.Path.{_≡_};
+ghost use Rattle.fields.specs.Ranges.{liesWithin, fits64};
+
+// Do n bytes from a place lie within a length?
+pub fn within(len: u64, at: u64, n: u64) -> bool
+    ensures { λ r. ⌜ r ≡ liesWithin len at n ⌝ }
+{
+    if len < at {
+        return false;
+    }
+    n <= len - at
+}
+
+// Is a sum below 2^64?
+pub fn sum_fits(a: u64, b: u64) -> bool
+    ensures { λ r. ⌜ r ≡ fits64 a b ⌝ }
+{
+    within(0xFFFF_FFFF_FFFF_FFFF, a, b)
+}
