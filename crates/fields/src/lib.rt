@@ -1,6 +1,6 @@
 // What every loader reads and writes: numbers and tags at a place, ranges, rounding, the copy. Each function answers on every input.
+pub mod copying;
 pub mod numbers;
-pub mod tags;
 pub mod ranges;
 pub mod rounding;
-pub mod copying;
+pub mod tags;

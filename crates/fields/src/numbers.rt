@@ -26,16 +26,16 @@ pub fn byte_at(s: &[u8], at: u64, i: u64) -> u64
     wide(s[k])
 }
 
-// The number of `width` bytes at a place: every reader below is this one.
+// The number of `width` bytes at a place, the last byte first: every reader below is this one.
 fn read_le(s: &[u8], at: u64, width: u64) -> u64
     requires { ⌜ width ≤ 8 ⌝ }
     ensures { λ r. ⌜ ReadAs width (now (s .entry)) at r ⌝ }
 {
     let mut v: u64 = 0;
-    let mut i = width;
-    while 0 < i {
-        i -= 1;
-        v = v * 256 + byte_at(s, at, i);
+    let mut i: u64 = 0;
+    while i < width {
+        i += 1;
+        v = v * 256 + byte_at(s, at, width - i);
     }
     v
 }

@@ -7,9 +7,5 @@ pub fn align_up(n: u32) -> u64
     ensures { λ r. ⌜ r ≡ roundedUp n ⌝ }
 {
     let size = n as u64;
-    if size & 3 == 0 {
-        size
-    } else {
-        (size | 3) + 1
-    }
+    if size & 3 == 0 { size } else { (size | 3) + 1 }
 }

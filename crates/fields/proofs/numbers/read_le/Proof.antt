@@ -1,4 +1,4 @@
--- `numbers::read_le`: after each turn v is the number of the bytes from i on.
+-- `numbers::read_le`: after i turns v is the number of the last i bytes.
 use Prim.Native.Nat.{_≤_, _-_, _+_}
 use native.Mathlib.Omega.{arith}
 use Rattle.fields.specs.Numbers.{ReadAs}
@@ -7,22 +7,18 @@ use Rattle.fields.proofs.numbers.read_le.Statement.{statement}
 use Rattle.fields.proofs.numbers.read_le.Tie as tie
 
 abbrev Inv-loop : tie.InvT-loop
-Inv-loop s at width v₀ i₀ v i = (i ≤ width) × ReadAs (width - i) s (at + i) v
+Inv-loop s at width v₀ i₀ v i = (i ≤ width) × ReadAs i s (at + (width - i)) v
 
 abbrev μ-loop : tie.MeasureT-loop
-μ-loop s at width v₀ i₀ v i = i
+μ-loop s at width v₀ i₀ v i = width - i
 
 mul-v : tie.Need-mul-v Inv-loop μ-loop
-mul-v c =
-    let width = c .before .before .before .args .width in
-    let at-turn = c .before .loop in
-    omega (arith, fits-next (width - at-turn .i) 0 (omega arith) (at-turn .inv .1 .small) (omega arith))
+mul-v c = let at-turn = c .before .loop in omega (arith, fits-next (at-turn .i) 0 (omega arith) (at-turn .inv .1 .small) (omega arith))
 
 add-v : tie.Need-add-v Inv-loop μ-loop
 add-v c =
-    let width = c .before .before .before .before .args .width in
     let at-turn = c .before .before .loop in
-    record { fits = fits-next (width - at-turn .i) _ (omega arith) (at-turn .inv .1 .small) (c .byte-at .ensures .small) }
+    record { fits = fits-next (at-turn .i) _ (omega arith) (at-turn .inv .1 .small) (c .byte-at .ensures .small) }
 
 loop-again : tie.Need-loop-again Inv-loop μ-loop
 loop-again c = (omega arith, read-next (omega arith) (omega arith) (c .before .before .loop .inv .1) (c .byte-at .ensures))
@@ -39,6 +35,7 @@ read-le-spec =
     (λ c. (omega arith, read-none _ _ _ (omega arith)))
     (λ c. omega arith)
     mul-v
+    (λ c. omega arith)
     (λ c κs. tt)
     add-v
     (λ c. omega arith)

@@ -1,0 +1,4 @@
+pub mod RoomLaws
+pub mod StreamLaws
+pub mod PartLaws
+pub mod Outcomes

@@ -1,0 +1,34 @@
+-- Each public function permits one outcome.
+use mathlib.Core.Path.{refl}
+use Rattle.answers.specs.Outcome.{OneOutcome}
+use Rattle.answers.proofs.Outcomes.{meet, first}
+use Rattle.guest.proofs.addresses.amount.Kinds as amount-kinds
+use Rattle.guest.proofs.addresses.amount.Reads as amount-reads
+use Rattle.guest.proofs.addresses.is_given.Kinds as is-given-kinds
+use Rattle.guest.proofs.addresses.is_given.Reads as is-given-reads
+use Rattle.guest.proofs.addresses.given_or.Kinds as given-or-kinds
+use Rattle.guest.proofs.addresses.given_or.Reads as given-or-reads
+use Rattle.guest.proofs.sizes.is_allowed.Kinds as is-allowed-kinds
+use Rattle.guest.proofs.sizes.is_allowed.Reads as is-allowed-reads
+use Rattle.guest.proofs.room.has_room.Kinds as has-room-kinds
+use Rattle.guest.proofs.room.has_room.Reads as has-room-reads
+use Rattle.guest.proofs.copying.copy_image.Kinds as copy-image-kinds
+use Rattle.guest.proofs.copying.copy_image.Reads as copy-image-reads
+
+pub amount-one : OneOutcome 0 amount-kinds.ps amount-kinds.r amount-reads.Post
+amount-one κs a z z' ws ws' p q = (meet p q, refl)
+
+pub is-given-one : OneOutcome 0 is-given-kinds.ps is-given-kinds.r is-given-reads.Post
+is-given-one κs a z z' ws ws' p q = (meet p q, refl)
+
+pub given-or-one : OneOutcome 0 given-or-kinds.ps given-or-kinds.r given-or-reads.Post
+given-or-one κs a z z' ws ws' p q = (meet p q, refl)
+
+pub is-allowed-one : OneOutcome 0 is-allowed-kinds.ps is-allowed-kinds.r is-allowed-reads.Post
+is-allowed-one κs a z z' ws ws' p q = (meet p q, refl)
+
+pub has-room-one : OneOutcome 0 has-room-kinds.ps has-room-kinds.r has-room-reads.Post
+has-room-one κs a z z' ws ws' p q = (meet p q, refl)
+
+pub copy-image-one : OneOutcome 2 copy-image-kinds.ps copy-image-kinds.r copy-image-reads.Post
+copy-image-one κs a z z' ws ws' p q = (refl, first (meet p q))

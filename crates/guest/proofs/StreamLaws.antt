@@ -1,0 +1,94 @@
+-- Laws of the stream and of its pouring.
+use Prim.Native.Nat.{ℕ, suc, _+_, _-_, _≤_, _<_}
+use mathlib.Core.Path.{_≡_, sym, _∙_, refl, ap}
+use mathlib.Core.Bool.{true, false}
+use mathlib.Core.List.{List, [], _∷_, _++_}
+use native.Mathlib.Omega.{arith}
+use native.Mathlib.Decide.{decLe, ℕ-discrete}
+use borrow.Author.Tests.{eq-eqb, ne-eqb}
+use lib.Dec.{eqb}
+use lib.ListN.{length, set, getD, length-set}
+use lib.Seq.{sets, set-append-left, getD-set-same, getD-set-other}
+use Rattle.answers.specs.Pick.{pick}
+use Rattle.guest.specs.Stream.{Poke, pour, streamAt, lastAt, Inside, none, goes}
+
+-- pouring keeps the length
+pub length-pour : (ps : List Poke) (guest : List ℕ) → length (pour ps guest) ≡ length guest
+unfolding pour
+length-pour [] guest = refl
+length-pour (p ∷ ps) guest = length-pour ps (set guest (p .0) (p .1)) ∙ length-set guest (p .0) (p .1)
+
+-- one stream after another
+pub pour-append : (ps qs : List Poke) (guest : List ℕ) → pour (ps ++ qs) guest ≡ pour qs (pour ps guest)
+unfolding pour
+pour-append [] qs guest = refl
+pour-append (p ∷ ps) qs guest = pour-append ps qs (set guest (p .0) (p .1))
+
+-- bytes from an address on are a run of stores
+pub pour-at : (vs guest : List ℕ) (a : ℕ) → pour (streamAt a vs) guest ≡ sets guest a vs
+unfolding pour streamAt
+pour-at [] guest a = refl
+pour-at (v ∷ vs) guest a = pour-at vs (set guest a v) (suc a)
+
+-- ---- into longer memory
+
+pub inside-append : {size : ℕ} {ps qs : List Poke} → Inside size ps → Inside size qs → Inside size (ps ++ qs)
+inside-append none rest = rest
+inside-append (goes h more) rest = goes h (inside-append more rest)
+
+pub inside-at : (size a : ℕ) (vs : List ℕ) → a + length vs ≤ size → Inside size (streamAt a vs)
+unfolding streamAt
+inside-at size a [] h = none
+inside-at size a (v ∷ vs) h = goes {p = (a, v)} (omega arith) (inside-at size (suc a) vs (omega arith))
+
+-- a stream that goes into memory leaves what is added behind it as it is
+pub pour-longer : (ps : List Poke) (guest more : List ℕ) → Inside (length guest) ps → pour ps (guest ++ more) ≡ pour ps guest ++ more
+unfolding pour
+pour-longer [] guest more h = refl
+pour-longer (p ∷ ps) guest more (goes h rest) =
+    rw (set-append-left guest more (p .0) (p .1) h)
+    (pour-longer ps (set guest (p .0) (p .1)) more (rw (length-set guest (p .0) (p .1)) rest))
+
+-- ---- byte by byte
+
+-- one store, seen at an address of memory
+set-seen : (guest : List ℕ) (x a v : ℕ) → a < length guest → getD (set guest x v) a 0 ≡ pick (eqb x a) v (getD guest a 0)
+unfolding pick
+set-seen guest x a v h = split (ℕ-discrete x a)
+  where
+    split : Dec (x ≡ a) → getD (set guest x v) a 0 ≡ pick (eqb x a) v (getD guest a 0)
+    split (yes e) = rw (eq-eqb x a e, e) (getD-set-same guest a v 0 h)
+    split (no n) = rw (ne-eqb x a n) (getD-set-other guest x a v 0 (λ e. n (sym e)))
+
+-- the last poke at an address decides
+pub last-decides : (ps : List Poke) (guest : List ℕ) (a : ℕ) → a < length guest → getD (pour ps guest) a 0 ≡ lastAt ps a (getD guest a 0)
+unfolding pour lastAt
+last-decides [] guest a h = refl
+last-decides (p ∷ ps) guest a h =
+    last-decides ps (set guest (p .0) (p .1)) a (simp length-set (omega arith)) ∙ ap (lastAt ps a) (set-seen guest (p .0) a (p .1) h)
+
+pub last-append : (ps qs : List Poke) (a b : ℕ) → lastAt (ps ++ qs) a b ≡ lastAt qs a (lastAt ps a b)
+unfolding lastAt
+last-append [] qs a b = refl
+last-append (p ∷ ps) qs a b = last-append ps qs a (pick (eqb (p .0) a) (p .1) b)
+
+-- bytes from an address x on: outside of them nothing is decided, and inside the byte there
+pub last-outside : (vs : List ℕ) (x a b : ℕ) → (x ≤ a → a < x + length vs → ⊥) → lastAt (streamAt x vs) a b ≡ b
+unfolding lastAt streamAt pick
+last-outside [] x a b out = refl
+last-outside (v ∷ vs) x a b out =
+    ap (λ t. lastAt (streamAt (suc x) vs) a (pick t v b)) (ne-eqb x a (λ e. out (omega arith) (omega arith)))
+    ∙ last-outside vs (suc x) a b (λ le lt. out (omega arith) (omega arith))
+
+pub last-inside : (vs : List ℕ) (x a b : ℕ) → x ≤ a → a < x + length vs → lastAt (streamAt x vs) a b ≡ getD vs (a - x) 0
+unfolding lastAt streamAt pick
+last-inside [] x a b le lt = absurd (omega arith)
+last-inside (v ∷ vs) x a b le lt = split (decLe (suc x) a) (λ h. last-inside vs (suc x) a (pick (eqb x a) v b) h (omega arith))
+  where
+    split : Dec (suc x ≤ a) → (suc x ≤ a → lastAt (streamAt (suc x) vs) a (pick (eqb x a) v b) ≡ getD vs (a - suc x) 0)
+        → lastAt (streamAt (suc x) vs) a (pick (eqb x a) v b) ≡ getD (v ∷ vs) (a - x) 0
+    split (yes h) rest = rest h ∙ ap (λ k. getD (v ∷ vs) k 0) (let e : suc (a - suc x) ≡ a - x = omega arith in e)
+    split (no h) rest =
+        let e : x ≡ a = omega arith in
+        last-outside vs (suc x) a (pick (eqb x a) v b) (λ le' lt'. h le')
+        ∙ rw (eq-eqb x a e) (ap (λ k. getD (v ∷ vs) k 0) (let z : 0 ≡ a - x = omega arith in z))

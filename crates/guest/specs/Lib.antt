@@ -1,0 +1,4 @@
+pub mod Addresses
+pub mod Sizes
+pub mod Room
+pub mod Stream

@@ -1,0 +1,34 @@
+-- What a load writes, as a stream: bytes with their addresses, in the order in which they are written; and guest memory after it.
+use mathlib.Core.List.{List, [], _∷_}
+use Prim.Native.Nat.{ℕ, suc, _<_}
+use lib.Dec.{eqb}
+use lib.ListN.{set, take, drop}
+use Rattle.answers.specs.Pick.{pick}
+
+-- an address, and the byte that goes there
+abbrev pub Poke : Type 0
+Poke = ℕ × ℕ
+
+-- guest memory after a stream was poured into it, each byte in turn; a byte past the end goes nowhere
+unfoldable pub pour : List Poke → List ℕ → List ℕ
+pour [] guest = guest
+pour (p ∷ ps) guest = pour ps (set guest (p .0) (p .1))
+
+-- the stream of bytes that go to an address and those after it
+unfoldable pub streamAt : ℕ → List ℕ → List Poke
+streamAt address [] = []
+streamAt address (v ∷ vs) = (address, v) ∷ streamAt (suc address) vs
+
+-- n bytes of an image from a place on, as far as the image goes
+abbrev pub bytesAt : List ℕ → ℕ → ℕ → List ℕ
+bytesAt image place n = take n (drop place image)
+
+-- the byte that a stream leaves at an address where a byte stood: the last poke there decides
+unfoldable pub lastAt : List Poke → ℕ → ℕ → ℕ
+lastAt [] address byte = byte
+lastAt (p ∷ ps) address byte = lastAt ps address (pick (eqb (p .0) address) (p .1) byte)
+
+-- every byte of a stream goes into memory of this size
+pub data Inside (size : ℕ) : List Poke → Type 0 where
+  none : Inside size []
+  goes : {p : Poke} {ps : List Poke} → p .0 < size → Inside size ps → Inside size (p ∷ ps)
