@@ -1,3 +1,13 @@
+// Copyright © 2020, Oracle and/or its affiliates.
+// Copyright (c) 2019 Intel Corporation. All rights reserved.
+// Copyright 2018 Amazon.com, Inc. or its affiliates. All Rights Reserved.
+//
+// Copyright 2017 The Chromium OS Authors. All rights reserved.
+// Use of this source code is governed by a BSD-style license that can be
+// found in the NOTICE file.
+//
+// SPDX-License-Identifier: Apache-2.0 AND BSD-3-Clause
+
 // Sizes of notes are rounded up to 4.
 ghost use mathlib.Core.Path.{_≡_};
 ghost use Rattle.fields.specs.Rounding.{roundedUp};
