@@ -4,7 +4,7 @@ use Prim.Native.Nat.{ℕ, _+_}
 use lib.Dec.{leb}
 
 -- do n bytes from a place lie within a length?
-abbrev pub liesWithin : ℕ → ℕ → ℕ → Bool
+unfoldable pub liesWithin : ℕ → ℕ → ℕ → Bool
 liesWithin len at n = leb (at + n) len
 
 -- the greatest number of 64 bits
@@ -13,4 +13,4 @@ top64 = 0xFFFFFFFFFFFFFFFF
 
 -- is a sum below 2^64?
 abbrev pub fits64 : ℕ → ℕ → Bool
-fits64 a b = leb (a + b) top64
+fits64 a b = liesWithin top64 a b

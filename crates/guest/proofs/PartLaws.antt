@@ -9,9 +9,8 @@ use native.Mathlib.Decide.{decLe}
 use lib.ListN.{length, set, take, drop, take-append-drop, length-drop, drop-of-length-le}
 use lib.Seq.{sets, take-set-le, drop-set-add, take-all, drop-length}
 use borrow.Rule.Slice.PartMut.{midOf, putMid, post-is}
-use Rattle.fields.proofs.CopyingLaws.{sets-out}
 use Rattle.guest.specs.Stream.{bytesAt, pour, streamAt}
-use Rattle.guest.proofs.StreamLaws.{pour-at}
+use Rattle.guest.proofs.StreamLaws.{pour-at, pour-past}
 
 -- a run of stores in the part from a on
 sets-from : (vs g : List ℕ) (a i : ℕ) → take a g ++ sets (drop a g) i vs ≡ sets g (a + i) vs
@@ -59,7 +58,7 @@ pour-clipped vs g address {a} e = split (decLe address (length g))
   where
     split : Dec (address ≤ length g) → pour (streamAt a vs) g ≡ pour (streamAt address vs) g
     split (yes h) = ap (λ (m : ℕ). pour (streamAt m vs) g) (let same : a ≡ address = omega arith in same)
-    split (no h) = pour-at vs g a ∙ sets-out vs g a (omega arith) ∙ sym (pour-at vs g address ∙ sets-out vs g address (omega arith))
+    split (no h) = pour-past vs g a (omega arith) ∙ sym (pour-past vs g address (omega arith))
 
 -- n bytes from a place of the image, stored in the part of memory that begins at an address, each clipped to its length
 pub image-poured : (address place n : ℕ) (g s : List ℕ) {a from to : ℕ} {ys : List ℕ} → a ≡ min address (length g) → from ≡ min place (length s)

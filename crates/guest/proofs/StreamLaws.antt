@@ -10,6 +10,7 @@ use lib.Dec.{eqb}
 use lib.ListN.{length, set, getD, length-set}
 use lib.Seq.{sets, set-append-left, getD-set-same, getD-set-other}
 use Rattle.answers.specs.Pick.{pick}
+use Rattle.fields.proofs.CopyingLaws.{sets-out}
 use Rattle.guest.specs.Stream.{Poke, pour, streamAt, lastAt, Inside, none, goes}
 
 -- pouring keeps the length
@@ -29,6 +30,10 @@ pub pour-at : (vs guest : List ℕ) (a : ℕ) → pour (streamAt a vs) guest ≡
 unfolding pour streamAt
 pour-at [] guest a = refl
 pour-at (v ∷ vs) guest a = pour-at vs (set guest a v) (suc a)
+
+-- bytes from an address past the end go nowhere
+pub pour-past : (vs guest : List ℕ) (a : ℕ) → length guest ≤ a → pour (streamAt a vs) guest ≡ guest
+pour-past vs guest a h = pour-at vs guest a ∙ sets-out vs guest a h
 
 -- ---- into longer memory
 

@@ -1,14 +1,12 @@
 -- `ranges::within`: the test by a difference is the test by the sum.
-use Prim.Native.Nat.{_+_}
 use mathlib.Core.Path.{sym}
 use native.Mathlib.Omega.{arith}
-use borrow.Author.Tests.{lt-leb}
-use Rattle.fields.proofs.RangesLaws.{by-difference}
+use Rattle.fields.proofs.RangesLaws.{sum-beyond, by-difference}
 use Rattle.fields.proofs.ranges.within.Statement.{statement}
 use Rattle.fields.proofs.ranges.within.Tie as tie
 
 returns : tie.Need-returns
-returns c = let args = c .before .args in sym (lt-leb (args .at + args .n) (args .len) (omega arith))
+returns c = let args = c .before .args in sym (sum-beyond (args .len) (args .at) (args .n) (omega arith))
 
 returns-2 : tie.Need-returns-2
 returns-2 c = let args = c .before .args in by-difference (args .len) (args .at) (args .n) (c .if1 .left)

@@ -1,0 +1,50 @@
+-- Laws of the tests before the program headers: what holds where all of them do.
+use Prim.Native.Nat.{ℕ, _+_, _*_, _≤_, _<_}
+use mathlib.Core.Path.{_≡_, sym, _∙_, ap}
+use mathlib.Core.Bool.{Bool, true}
+use mathlib.Core.List.{List}
+use native.Mathlib.Omega.{arith}
+use borrow.Author.Tests.{leb-true, ne-eqb}
+use lib.Dec.{eqb}
+use lib.ListN.{length}
+use Rattle.answers.specs.Pick.{pick}
+use Rattle.answers.specs.Tests.{AllHold}
+use Rattle.answers.proofs.TestsLaws.{open-all}
+use Rattle.answers.specs.declared.Gate.the-variants.{Open}
+use Rattle.fields.specs.Ranges.{liesWithin, top64}
+use Rattle.fields.proofs.RangesLaws.{within-sum}
+use Rattle.guest.specs.Addresses.{amountOf}
+use Rattle.guest.specs.declared.Given.{Given}
+use Rattle.elf.specs.Header.{headerSize, programHeaderSize, e-entry, e-phoff, e-phnum, standWithin, tests, gateOf}
+use Rattle.elf.specs.ProgramHeaders.{headerPlace, HeadersStand}
+
+-- n program headers within the image: each of them stands there
+pub stand-all : (image : List ℕ) (n : ℕ) → standWithin (length image) (e-phoff image) n ≡ true → HeadersStand image n
+unfolding standWithin pick
+stand-all image n e = record { stands = λ i lt. stand i lt }
+  where
+    some : (i : ℕ) → i < n → pick (eqb n 0) true (liesWithin (length image) (e-phoff image) (programHeaderSize * n))
+        ≡ liesWithin (length image) (e-phoff image) (programHeaderSize * n)
+    some i lt = rw (ne-eqb n 0 (λ z. omega arith))
+
+    stand : (i : ℕ) → i < n → headerPlace image i + programHeaderSize ≤ length image
+    stand i lt =
+        let all = within-sum (length image) (e-phoff image) (programHeaderSize * n) (sym (some i lt) ∙ e) in
+        omega arith
+
+module _ (image : List ℕ) (size : ℕ) (offset highmem : Given) (opened : gateOf image size offset highmem ≡ Open) where
+  pub tests-hold : AllHold (tests image size offset highmem)
+  unfolding gateOf
+  tests-hold = open-all (tests image size offset highmem) opened
+
+  -- the header stands in the image
+  pub open-length : headerSize ≤ length image
+  open-length = leb-true headerSize (length image) (tests-hold .1 .1 .0)
+
+  -- the load address is below 2^64
+  pub open-sum : amountOf offset + e-entry image ≤ top64
+  open-sum = within-sum top64 (amountOf offset) (e-entry image) (tests-hold .1 .1 .1 .1 .1 .1 .1 .1 .0)
+
+  -- every program header stands in the image
+  pub open-headers : HeadersStand image (e-phnum image)
+  open-headers = stand-all image (e-phnum image) (tests-hold .1 .1 .1 .1 .1 .1 .1 .1 .1 .0)

@@ -1,0 +1,4 @@
+pub mod HeaderLaws
+pub mod NotesLaws
+pub mod SurveyLaws
+pub mod PouringLaws

@@ -1,0 +1,52 @@
+-- Laws of the stream of a load.
+use Prim.Native.Nat.{ℕ, zero, suc, _+_, _≤_}
+use mathlib.Core.Path.{_≡_, sym, _∙_, refl, ap}
+use mathlib.Core.Bool.{true, false}
+use mathlib.Core.List.{List, []}
+use borrow.Author.Tests.{eq-eqb, ne-eqb}
+use lib.ListN.{length}
+use Rattle.answers.specs.Pick.{pick}
+use Rattle.guest.specs.Stream.{Poke, pour, streamAt, bytesAt}
+use Rattle.guest.proofs.StreamLaws.{pour-append, pour-past}
+use Rattle.elf.specs.ProgramHeaders.{headerOf}
+use Rattle.elf.specs.Pouring.{segmentStream, streamFrom}
+use Rattle.elf.specs.declared.program_headers.ProgramHeader.{ProgramHeader}
+
+-- ---- one program header
+
+abbrev pub segmentBytes : List ℕ → ProgramHeader → List ℕ
+segmentBytes image h = bytesAt image (h .«p_offset» .0) (h .«p_filesz»)
+
+module _ (image : List ℕ) (shift : ℕ) (h : ProgramHeader) where
+  -- one that is not loadable has no stream
+  pub stream-none : (h .«p_type» ≡ 1 → ⊥) → segmentStream image shift h ≡ []
+  unfolding segmentStream pick
+  stream-none other = rw (ne-eqb (h .«p_type») 1 other)
+
+  pub stream-loads : h .«p_type» ≡ 1 → segmentStream image shift h ≡ streamAt (shift + h .«p_paddr» .0) (segmentBytes image h)
+  unfolding segmentStream pick
+  stream-loads loads = rw (eq-eqb (h .«p_type») 1 loads)
+
+  pub pour-none : (guest : List ℕ) → (h .«p_type» ≡ 1 → ⊥) → guest ≡ pour (segmentStream image shift h) guest
+  unfolding pour
+  pour-none guest other = rw (stream-none other)
+
+  pub pour-loads : (guest : List ℕ) → h .«p_type» ≡ 1
+      → pour (streamAt (shift + h .«p_paddr» .0) (segmentBytes image h)) guest ≡ pour (segmentStream image shift h) guest
+  pour-loads guest loads = ap (λ ps. pour ps guest) (sym (stream-loads loads))
+
+  -- one whose address passes the end of memory writes nothing
+  pub pour-beyond : (guest : List ℕ) → h .«p_type» ≡ 1 → length guest ≤ shift + h .«p_paddr» .0 → guest ≡ pour (segmentStream image shift h) guest
+  pour-beyond guest loads past = sym (pour-past (segmentBytes image h) guest (shift + h .«p_paddr» .0) past) ∙ pour-loads guest loads
+
+-- ---- program header after program header
+
+module _ (image : List ℕ) (shift i : ℕ) (guest : List ℕ) where
+  pub stream-next : {m : ℕ} {h : ProgramHeader} (n : ℕ) → m ≡ suc n → h ≡ headerOf image i
+      → pour (streamFrom m image shift i) guest ≡ pour (streamFrom n image shift (suc i)) (pour (segmentStream image shift h) guest)
+  unfolding streamFrom
+  stream-next n em eh = rw (em, eh) (pour-append (segmentStream image shift (headerOf image i)) (streamFrom n image shift (suc i)) guest)
+
+  pub stream-end : {m : ℕ} → m ≡ 0 → pour (streamFrom m image shift i) guest ≡ guest
+  unfolding streamFrom pour
+  stream-end em = rw em

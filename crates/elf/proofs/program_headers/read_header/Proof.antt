@@ -1,0 +1,25 @@
+-- `program_headers::read_header`: the five numbers, each read where it stands.
+use borrow.Author.Needs.{needs}
+use Rattle.elf.specs.ProgramHeaders.{headerAt}
+use Rattle.elf.proofs.program_headers.read_header.Statement.{statement}
+use Rattle.elf.proofs.program_headers.read_header.Tie as tie
+
+returns : tie.Need-returns
+unfolding headerAt
+returns c = rw (c .read-u644 .ensures .value, c .before .read-u643 .ensures .value, c .before .before .read-u642 .ensures .value, c .before .before .before .read-u64 .ensures .value, c .before .before .before .before .read-u32 .ensures .value, c .before .before .before .before .before .place .ensures)
+
+pub read-header-spec : {M : Type 1} → statement M
+read-header-spec =
+    tie.close
+    (tie.spec
+    (λ c κs. search needs)
+    (λ c κs. search needs)
+    (λ c. search needs)
+    (λ c κs. search needs)
+    (λ c. search needs)
+    (λ c κs. search needs)
+    (λ c. search needs)
+    (λ c κs. search needs)
+    (λ c. search needs)
+    (λ c κs. search needs)
+    returns)

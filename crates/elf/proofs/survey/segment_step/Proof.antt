@@ -1,0 +1,63 @@
+-- `survey::segment_step`: by the tests, as the definition asks them.
+use borrow.Author.Needs.{needs}
+use native.Mathlib.Omega.{arith}
+use Rattle.fields.proofs.RangesLaws.{within-sum}
+use Rattle.answers.proofs.PickLaws.{failed, held}
+use Rattle.answers.specs.Pick.{pick}
+use Rattle.elf.specs.Survey.{segmentStep}
+use Rattle.elf.proofs.survey.segment_step.Statement.{statement}
+use Rattle.elf.proofs.survey.segment_step.Tie as tie
+
+returns : tie.Need-returns
+unfolding segmentStep pick
+returns c = rw (failed (c .before .sum-fits .ensures) (c .if1 .taken))
+
+add-at : tie.Need-add-at
+add-at c = omega (arith, within-sum _ _ _ (held (c .before .sum-fits .ensures) (c .if1 .left)))
+
+returns-2 : tie.Need-returns-2
+unfolding segmentStep pick
+returns-2 c = rw (held (c .before .before .before .sum-fits .ensures) (c .before .before .if1 .left), failed (c .before .within .ensures) (c .if2 .taken))
+
+returns-3 : tie.Need-returns-3
+unfolding segmentStep pick
+returns-3 c = rw (held (c .before .before .before .before .before .sum-fits .ensures) (c .before .before .before .before .if1 .left), held (c .before .before .before .within .ensures) (c .before .before .if2 .left), failed (c .before .has-room .ensures) (c .if3 .taken))
+
+returns-4 : tie.Need-returns-4
+unfolding segmentStep pick
+returns-4 c =
+    rw (
+      held (c .before .before .before .before .before .before .before .sum-fits .ensures) (c .before .before .before .before .before .before .if1 .left),
+      held (c .before .before .before .before .before .within .ensures) (c .before .before .before .before .if2 .left),
+      held (c .before .before .before .has-room .ensures) (c .before .before .if3 .left),
+      failed (c .before .sum-fits2 .ensures) (c .if4 .taken),
+    )
+
+add-t15 : tie.Need-add-t15
+add-t15 c = omega (arith, within-sum _ _ _ (held (c .before .sum-fits2 .ensures) (c .if4 .left)))
+
+returns-5 : tie.Need-returns-5
+unfolding segmentStep pick
+returns-5 c =
+    rw (
+      held (c .before .before .before .before .before .before .before .sum-fits .ensures) (c .before .before .before .before .before .before .if1 .left),
+      held (c .before .before .before .before .before .within .ensures) (c .before .before .before .before .if2 .left),
+      held (c .before .before .before .has-room .ensures) (c .before .before .if3 .left),
+      held (c .before .sum-fits2 .ensures) (c .if4 .left),
+    )
+
+pub segment-step-spec : {M : Type 1} → statement M
+segment-step-spec =
+    tie.close
+    (tie.spec
+    (λ c κs. search needs)
+    returns
+    add-at
+    (λ c κs. search needs)
+    returns-2
+    (λ c κs. search needs)
+    returns-3
+    (λ c κs. search needs)
+    returns-4
+    add-t15
+    returns-5)

@@ -1,0 +1,82 @@
+// Copyright © 2020, Oracle and/or its affiliates.
+// Copyright (c) 2019 Intel Corporation. All rights reserved.
+// Copyright 2018 Amazon.com, Inc. or its affiliates. All Rights Reserved.
+//
+// Copyright 2017 The Chromium OS Authors. All rights reserved.
+// Use of this source code is governed by a BSD-style license that can be
+// found in the NOTICE file.
+//
+// SPDX-License-Identifier: Apache-2.0 AND BSD-3-Clause
+
+// Loading an ELF kernel. A load is a plan, made of the image, the size of guest memory and the options alone, and a pouring: the
+// segments of the program headers that the plan lets through, in file order.
+ghost use mathlib.Core.Path.{_≡_};
+ghost use lib.ListN.{length};
+ghost use Rattle.elf.specs.Load.{LoadSays};
+ghost use Rattle.elf.specs.Notes.{publicNote};
+use answers::Refusal;
+use guest::Given;
+use guest::GuestAddress;
+use guest::ImagePlace;
+use guest::addresses;
+use guest::sizes;
+
+mod header;
+mod notes;
+mod pouring;
+mod program_headers;
+mod survey;
+
+// Is there an entry point for the PVH boot protocol?
+pub enum PvhBootCapability {
+    PvhEntryPresent(GuestAddress),
+    PvhEntryNotPresent,
+    PvhEntryIgnored,
+}
+
+// Where the kernel was loaded: the entry point, the end of its memory, and its PVH entry.
+pub struct KernelLoaderResult {
+    pub kernel_load: GuestAddress,
+    pub kernel_end: GuestAddress,
+    pub pvh_boot_cap: PvhBootCapability,
+}
+
+// What a load answers.
+pub enum Answer {
+    Loaded(KernelLoaderResult),
+    Refused(Refusal),
+}
+
+// What the notes of a program header say.
+pub enum NoteAnswer {
+    Says(PvhBootCapability),
+    Refused(Refusal),
+}
+
+// What a note walk answers, and how many note headers it read: none beside a refusal, which is told alone.
+pub struct ElfNote {
+    pub answer: NoteAnswer,
+    pub headers: u64,
+}
+
+// Loads an ELF image into guest memory. A segment goes to its physical address, moved by the offset where one is given.
+pub fn load(guest: &mut [u8], image: &[u8], kernel_offset: Given, highmem_start: Given) -> Answer
+    ensures { λ r. ⌜ LoadSays (now (image .entry)) «kernel_offset» «highmem_start» (now (guest .entry)) r (now (guest .exit)) ⌝ }
+{
+    let plan = survey::plan_load(image, guest.len() as u64, kernel_offset, highmem_start);
+    pouring::pour_segments(guest, image, addresses::amount(kernel_offset), plan.written);
+    plan.answer
+}
+
+// The PVH entry that the notes of p_filesz bytes at p_offset give.
+pub fn parse_elf_note(image: &[u8], p_offset: ImagePlace, p_filesz: u64) -> ElfNote
+    ensures { λ r. ⌜ r ≡ publicNote (now (image .entry)) «p_offset» «p_filesz» ⌝ }
+{
+    if !sizes::is_allowed(image.len() as u64) {
+        return ElfNote {
+            answer: NoteAnswer::Refused(Refusal::SliceTooLong),
+            headers: 0,
+        };
+    }
+    notes::told(notes::entry(image, p_offset, p_filesz))
+}

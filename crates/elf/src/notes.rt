@@ -1,0 +1,210 @@
+// Copyright © 2020, Oracle and/or its affiliates.
+// Copyright (c) 2019 Intel Corporation. All rights reserved.
+// Copyright 2018 Amazon.com, Inc. or its affiliates. All Rights Reserved.
+//
+// Copyright 2017 The Chromium OS Authors. All rights reserved.
+// Use of this source code is governed by a BSD-style license that can be
+// found in the NOTICE file.
+//
+// SPDX-License-Identifier: Apache-2.0 AND BSD-3-Clause
+
+// The notes of a program header, walked until the PVH note is found.
+ghost use mathlib.Core.Path.{_≡_};
+ghost use Prim.Native.Nat.{_+_, _<_, _≤_};
+ghost use lib.ListN.{length};
+ghost use Rattle.elf.specs.Notes.{noteHeaderOf, isWanted, skipOf, turnAt, walkOf, withoutNote, entryOf, toldOf};
+use crate::ElfNote;
+use crate::NoteAnswer;
+use crate::PvhBootCapability;
+use answers::Refusal;
+use fields::numbers;
+use fields::ranges;
+use fields::rounding;
+use fields::tags;
+use guest::GuestAddress;
+use guest::ImagePlace;
+
+// The twelve bytes before a note's name.
+pub struct NoteHeader {
+    pub n_namesz: u32,
+    pub n_descsz: u32,
+    pub n_type: u32,
+}
+
+// What one note says to the walk: its descriptor is wanted, or the next note is so many bytes further.
+pub enum Turn {
+    Found(ImagePlace, u64),
+    Skip(u64),
+    Refused(Refusal),
+}
+
+// What a walk finds: the place and the size of the wanted descriptor.
+pub enum Walk {
+    Found(ImagePlace, u64),
+    NotFound,
+    Refused(Refusal),
+}
+
+pub struct Walked {
+    pub walk: Walk,
+    pub headers: u64,
+}
+
+fn read_note_header(image: &[u8], at: u64) -> NoteHeader
+    requires { ⌜ at + 12 ≤ length (now image) ⌝ }
+    ensures { λ r. ⌜ r ≡ noteHeaderOf (now (image .entry)) at ⌝ }
+{
+    let n_namesz = numbers::read_u32(image, at);
+    let n_descsz = numbers::read_u32(image, at + 4);
+    let n_type = numbers::read_u32(image, at + 8);
+    NoteHeader {
+        n_namesz: n_namesz as u32,
+        n_descsz: n_descsz as u32,
+        n_type: n_type as u32,
+    }
+}
+
+// A note that is not wanted: both its sizes are tested, then it is passed over.
+fn skip(note: NoteHeader) -> Turn
+    ensures { λ r. ⌜ r ≡ skipOf note ⌝ }
+{
+    if 0xFFFF_FFFC < note.n_namesz {
+        return Turn::Refused(Refusal::Overflow);
+    }
+    if 0xFFFF_FFFC < note.n_descsz {
+        return Turn::Refused(Refusal::Overflow);
+    }
+    let name = rounding::align_up(note.n_namesz);
+    let desc = rounding::align_up(note.n_descsz);
+    Turn::Skip(12 + name + desc)
+}
+
+// Do a note's type and name size say that its name has to be looked at?
+fn is_wanted(note: NoteHeader) -> bool
+    ensures { λ r. ⌜ r ≡ isWanted note ⌝ }
+{
+    if note.n_type != 18 {
+        return false;
+    }
+    note.n_namesz == 4
+}
+
+// The note whose header stands at a place.
+fn note_at(image: &[u8], at: u64) -> Turn
+    requires { ⌜ at + 12 ≤ length (now image) ⌝ }
+    ensures { λ r. ⌜ r ≡ turnAt (now (image .entry)) at ⌝ }
+{
+    let note = read_note_header(image, at);
+    if !is_wanted(note) {
+        return skip(note);
+    }
+    if !ranges::within(image.len() as u64, at + 12, 4) {
+        return Turn::Refused(Refusal::ReadNoteHeader);
+    }
+    if !tags::is_tag(image, at + 12, b"Xen\0") {
+        return skip(note);
+    }
+    Turn::Found(ImagePlace(at + 16), note.n_descsz as u64)
+}
+
+// Note after note, from p_offset on, while fewer than p_filesz bytes are read.
+fn walk_notes(image: &[u8], p_offset: ImagePlace, p_filesz: u64) -> Walked
+    ensures { λ r. ⌜ r ≡ walkOf (now (image .entry)) «p_offset» «p_filesz» ⌝ }
+{
+    let from = p_offset.0;
+    let len = image.len() as u64;
+    let mut read: u64 = 0;
+    let mut headers: u64 = 0;
+    while read < p_filesz {
+        if !ranges::within(len, from, read + 12) {
+            return Walked {
+                walk: Walk::Refused(Refusal::ReadNoteHeader),
+                headers: headers,
+            };
+        }
+        headers += 1;
+        let turn = note_at(image, from + read);
+        match turn {
+            Turn::Found(place, size) => {
+                return Walked {
+                    walk: Walk::Found(place, size),
+                    headers: headers,
+                };
+            }
+            Turn::Refused(r) => {
+                return Walked {
+                    walk: Walk::Refused(r),
+                    headers: headers,
+                };
+            }
+            Turn::Skip(n) => {
+                read += n;
+            }
+        }
+    }
+    Walked {
+        walk: Walk::NotFound,
+        headers: headers,
+    }
+}
+
+// What a walk that found no note says.
+fn without_note(walk: Walk) -> NoteAnswer
+    ensures { λ r. ⌜ r ≡ withoutNote walk ⌝ }
+{
+    match walk {
+        Walk::Refused(r) => NoteAnswer::Refused(r),
+        Walk::NotFound => NoteAnswer::Says(PvhBootCapability::PvhEntryNotPresent),
+        Walk::Found(_, _) => NoteAnswer::Says(PvhBootCapability::PvhEntryNotPresent),
+    }
+}
+
+// The PVH entry that the notes give, and the headers read, whatever the answer is.
+pub fn entry(image: &[u8], p_offset: ImagePlace, p_filesz: u64) -> ElfNote
+    ensures { λ r. ⌜ r ≡ entryOf (now (image .entry)) «p_offset» «p_filesz» ⌝ }
+{
+    let walked = walk_notes(image, p_offset, p_filesz);
+    let answer = walked.walk;
+    let headers = walked.headers;
+    let Walk::Found(place, size) = answer else {
+        return ElfNote {
+            answer: without_note(answer),
+            headers: headers,
+        };
+    };
+    if size < 4 {
+        return ElfNote {
+            answer: NoteAnswer::Refused(Refusal::InvalidPvhNote),
+            headers: headers,
+        };
+    }
+    let at = place.0;
+    if !ranges::within(image.len() as u64, at, 4) {
+        return ElfNote {
+            answer: NoteAnswer::Refused(Refusal::ReadNoteHeader),
+            headers: headers,
+        };
+    }
+    let address = numbers::read_u32(image, at);
+    ElfNote {
+        answer: NoteAnswer::Says(PvhBootCapability::PvhEntryPresent(GuestAddress(address))),
+        headers: headers,
+    }
+}
+
+// A refusal is told alone: no headers beside it.
+pub fn told(note: ElfNote) -> ElfNote
+    ensures { λ r. ⌜ r ≡ toldOf note ⌝ }
+{
+    let answer = note.answer;
+    match answer {
+        NoteAnswer::Says(pvh) => ElfNote {
+            answer: NoteAnswer::Says(pvh),
+            headers: note.headers,
+        },
+        NoteAnswer::Refused(r) => ElfNote {
+            answer: NoteAnswer::Refused(r),
+            headers: 0,
+        },
+    }
+}

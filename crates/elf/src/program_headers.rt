@@ -1,0 +1,55 @@
+// Copyright © 2020, Oracle and/or its affiliates.
+// Copyright (c) 2019 Intel Corporation. All rights reserved.
+// Copyright 2018 Amazon.com, Inc. or its affiliates. All Rights Reserved.
+//
+// Copyright 2017 The Chromium OS Authors. All rights reserved.
+// Use of this source code is governed by a BSD-style license that can be
+// found in the NOTICE file.
+//
+// SPDX-License-Identifier: Apache-2.0 AND BSD-3-Clause
+
+// Program headers, read from the image where they stand.
+ghost use mathlib.Core.Path.{_≡_};
+ghost use Prim.Native.Nat.{_+_, _≤_};
+ghost use lib.ListN.{length};
+ghost use Rattle.elf.specs.ProgramHeaders.{headerPlace, headerOf};
+use fields::numbers;
+use guest::GuestAddress;
+use guest::ImagePlace;
+
+// The fields of a program header that a load reads.
+pub struct ProgramHeader {
+    pub p_type: u64,
+    pub p_offset: ImagePlace,
+    pub p_paddr: GuestAddress,
+    pub p_filesz: u64,
+    pub p_memsz: u64,
+}
+
+// The place of program header i.
+fn place(image: &[u8], i: u64) -> u64
+    requires { ⌜ headerPlace (now image) i + 56 ≤ length (now image) ⌝ }
+    ensures { λ r. ⌜ r ≡ headerPlace (now (image .entry)) i ⌝ }
+{
+    numbers::read_u64(image, 32) + 56 * i
+}
+
+// Program header i, which stands in the image.
+pub fn read_header(image: &[u8], i: u64) -> ProgramHeader
+    requires { ⌜ headerPlace (now image) i + 56 ≤ length (now image) ⌝ }
+    ensures { λ r. ⌜ r ≡ headerOf (now (image .entry)) i ⌝ }
+{
+    let at = place(image, i);
+    let p_type = numbers::read_u32(image, at);
+    let p_offset = numbers::read_u64(image, at + 8);
+    let p_paddr = numbers::read_u64(image, at + 24);
+    let p_filesz = numbers::read_u64(image, at + 32);
+    let p_memsz = numbers::read_u64(image, at + 40);
+    ProgramHeader {
+        p_type: p_type,
+        p_offset: ImagePlace(p_offset),
+        p_paddr: GuestAddress(p_paddr),
+        p_filesz: p_filesz,
+        p_memsz: p_memsz,
+    }
+}

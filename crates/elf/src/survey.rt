@@ -1,0 +1,191 @@
+// Copyright © 2020, Oracle and/or its affiliates.
+// Copyright (c) 2019 Intel Corporation. All rights reserved.
+// Copyright 2018 Amazon.com, Inc. or its affiliates. All Rights Reserved.
+//
+// Copyright 2017 The Chromium OS Authors. All rights reserved.
+// Use of this source code is governed by a BSD-style license that can be
+// found in the NOTICE file.
+//
+// SPDX-License-Identifier: Apache-2.0 AND BSD-3-Clause
+
+// The survey: each program header in turn, up to the first that refuses.
+ghost use mathlib.Core.Path.{_≡_};
+ghost use Prim.Native.Nat.{max};
+ghost use Rattle.elf.specs.ProgramHeaders.{HeadersStand};
+ghost use Rattle.elf.specs.Survey.{segmentStep, noteStep, stepOf, advanced, blank, surveyFrom, planOf};
+use crate::Answer;
+use crate::KernelLoaderResult;
+use crate::NoteAnswer;
+use crate::PvhBootCapability;
+use crate::header;
+use crate::notes;
+use crate::program_headers;
+use crate::program_headers::ProgramHeader;
+use answers::Gate;
+use answers::Refusal;
+use fields::numbers;
+use fields::ranges;
+use guest::Given;
+use guest::GuestAddress;
+use guest::addresses;
+use guest::room;
+
+// What a program header that does not refuse changes of the result.
+pub enum Effect {
+    Nothing,
+    EndsAt(GuestAddress),
+    Pvh(PvhBootCapability),
+}
+
+// What one program header says: go on, refuse, or refuse after its segment is written.
+pub enum Step {
+    Pass(Effect),
+    Stop(Refusal),
+    StopWritten(Refusal),
+}
+
+// The answer, and of how many program headers the segments are written.
+pub struct Plan {
+    pub answer: Answer,
+    pub written: u64,
+}
+
+// A loadable segment with file bytes.
+fn segment_step(image_len: u64, guest_len: u64, shift: u64, h: ProgramHeader) -> Step
+    ensures { λ r. ⌜ r ≡ segmentStep «image_len» «guest_len» shift h ⌝ }
+{
+    let p_paddr = h.p_paddr.0;
+    if !ranges::sum_fits(shift, p_paddr) {
+        return Step::Stop(Refusal::InvalidProgramHeaderAddress);
+    }
+    let at = shift + p_paddr;
+    if !ranges::within(image_len, h.p_offset.0, h.p_filesz) {
+        return Step::Stop(Refusal::ReadKernelImage);
+    }
+    if !room::has_room(guest_len, GuestAddress(at), h.p_filesz) {
+        return Step::Stop(Refusal::ReadKernelImage);
+    }
+    let p_memsz = h.p_memsz;
+    if !ranges::sum_fits(at, p_memsz) {
+        return Step::StopWritten(Refusal::MemoryOverflow);
+    }
+    Step::Pass(Effect::EndsAt(GuestAddress(at + p_memsz)))
+}
+
+// A note header. With an offset it is not walked.
+fn note_step(image: &[u8], offset: Given, h: ProgramHeader) -> Step
+    ensures { λ r. ⌜ r ≡ noteStep (now (image .entry)) offset h ⌝ }
+{
+    if addresses::is_given(offset) {
+        return Step::Pass(Effect::Pvh(PvhBootCapability::PvhEntryIgnored));
+    }
+    let p_offset = h.p_offset;
+    let note = notes::entry(image, p_offset, h.p_filesz);
+    let answer = note.answer;
+    match answer {
+        NoteAnswer::Says(pvh) => Step::Pass(Effect::Pvh(pvh)),
+        NoteAnswer::Refused(r) => Step::Stop(r),
+    }
+}
+
+// Any program header.
+fn examine(image: &[u8], guest_len: u64, offset: Given, h: ProgramHeader) -> Step
+    ensures { λ r. ⌜ r ≡ stepOf (now (image .entry)) «guest_len» offset h ⌝ }
+{
+    let p_type = h.p_type;
+    if p_type == 1 {
+        if h.p_filesz == 0 {
+            return Step::Pass(Effect::Nothing);
+        }
+        return segment_step(image.len() as u64, guest_len, addresses::amount(offset), h);
+    }
+    if p_type == 4 {
+        return note_step(image, offset, h);
+    }
+    Step::Pass(Effect::Nothing)
+}
+
+fn greater(a: u64, b: u64) -> u64
+    ensures { λ r. ⌜ r ≡ max a b ⌝ }
+{
+    if a < b { b } else { a }
+}
+
+// The result after one more program header.
+fn advance(result: KernelLoaderResult, effect: Effect) -> KernelLoaderResult
+    ensures { λ r. ⌜ r ≡ advanced result effect ⌝ }
+{
+    let load = result.kernel_load;
+    let end = result.kernel_end;
+    let pvh = result.pvh_boot_cap;
+    match effect {
+        Effect::Nothing => result,
+        Effect::EndsAt(a) => KernelLoaderResult {
+            kernel_load: load,
+            kernel_end: GuestAddress(greater(end.0, a.0)),
+            pvh_boot_cap: pvh,
+        },
+        Effect::Pvh(said) => KernelLoaderResult {
+            kernel_load: load,
+            kernel_end: end,
+            pvh_boot_cap: said,
+        },
+    }
+}
+
+// The n program headers, which stand in the image.
+fn survey(image: &[u8], guest_len: u64, offset: Given, load: GuestAddress, n: u64) -> Plan
+    requires { ⌜ HeadersStand (now image) n ⌝ }
+    ensures { λ r. ⌜ r ≡ surveyFrom n (now (image .entry)) «guest_len» offset 0 (blank load) ⌝ }
+{
+    let mut result = KernelLoaderResult {
+        kernel_load: load,
+        kernel_end: GuestAddress(0),
+        pvh_boot_cap: PvhBootCapability::PvhEntryIgnored,
+    };
+    let mut i: u64 = 0;
+    while i < n {
+        let h = program_headers::read_header(image, i);
+        let step = examine(image, guest_len, offset, h);
+        match step {
+            Step::Pass(effect) => {
+                result = advance(result, effect);
+            }
+            Step::Stop(r) => {
+                return Plan {
+                    answer: Answer::Refused(r),
+                    written: i,
+                };
+            }
+            Step::StopWritten(r) => {
+                return Plan {
+                    answer: Answer::Refused(r),
+                    written: i + 1,
+                };
+            }
+        }
+        i += 1;
+    }
+    Plan {
+        answer: Answer::Loaded(result),
+        written: n,
+    }
+}
+
+// What a load answers, and of how many program headers it writes the segments.
+pub fn plan_load(image: &[u8], guest_len: u64, offset: Given, highmem: Given) -> Plan
+    ensures { λ r. ⌜ r ≡ planOf (now (image .entry)) «guest_len» offset highmem ⌝ }
+{
+    let gate = header::validate_header(image, guest_len, offset, highmem);
+    match gate {
+        Gate::Shut(r) => Plan {
+            answer: Answer::Refused(r),
+            written: 0,
+        },
+        Gate::Open => {
+            let load = addresses::amount(offset) + numbers::read_u64(image, 24);
+            let e_phnum = numbers::read_u16(image, 56);
+            survey(image, guest_len, offset, GuestAddress(load), e_phnum)
+        }
+    }
+}
