@@ -1,11 +1,12 @@
 -- Laws of the stream of a load.
 use Prim.Native.Nat.{ℕ, zero, suc, _+_, _≤_}
 use mathlib.Core.Path.{_≡_, sym, _∙_, refl, ap}
-use mathlib.Core.Bool.{true, false}
 use mathlib.Core.List.{List, []}
 use borrow.Author.Tests.{eq-eqb, ne-eqb}
+use lib.Dec.{eqb}
 use lib.ListN.{length}
 use Rattle.answers.specs.Pick.{pick}
+use Rattle.answers.proofs.PickLaws.{pick-with}
 use Rattle.guest.specs.Stream.{Poke, pour, streamAt, bytesAt}
 use Rattle.guest.proofs.StreamLaws.{pour-append, pour-past}
 use Rattle.elf.specs.ProgramHeaders.{headerOf}
@@ -22,6 +23,11 @@ module _ (image : List ℕ) (shift : ℕ) (h : ProgramHeader) where
   pub stream-none : (h .«p_type» ≡ 1 → ⊥) → segmentStream image shift h ≡ []
   unfolding segmentStream pick
   stream-none other = rw (ne-eqb (h .«p_type») 1 other)
+
+  -- nor has one without file bytes
+  pub stream-empty : h .«p_filesz» ≡ 0 → segmentStream image shift h ≡ []
+  unfolding segmentStream streamAt
+  stream-empty empty = rw empty (pick-with (λ (ps : List Poke). ps ≡ []) (eqb (h .«p_type») 1) (λ _. refl) (λ _. refl))
 
   pub stream-loads : h .«p_type» ≡ 1 → segmentStream image shift h ≡ streamAt (shift + h .«p_paddr» .0) (segmentBytes image h)
   unfolding segmentStream pick

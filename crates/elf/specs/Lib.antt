@@ -4,4 +4,5 @@ pub mod Notes
 pub mod Survey
 pub mod Pouring
 pub mod Load
-pub mod Cases
+pub mod Verdict
+pub mod ByteRule
