@@ -1,7 +1,7 @@
 -- Laws of the tests before the program headers: what holds where all of them do.
 use Prim.Native.Nat.{ℕ, _+_, _*_, _≤_, _<_}
-use mathlib.Core.Path.{_≡_, sym, _∙_, ap}
-use mathlib.Core.Bool.{Bool, true}
+use mathlib.Core.Path.{_≡_, sym, _∙_, refl}
+use mathlib.Core.Bool.{Bool, true, false}
 use mathlib.Core.List.{List}
 use native.Mathlib.Omega.{arith}
 use borrow.Author.Tests.{leb-true, ne-eqb}
@@ -12,7 +12,7 @@ use Rattle.answers.specs.Tests.{AllHold}
 use Rattle.answers.proofs.TestsLaws.{open-all}
 use Rattle.answers.specs.declared.Gate.the-variants.{Open}
 use Rattle.fields.specs.Ranges.{liesWithin, top64}
-use Rattle.fields.proofs.RangesLaws.{within-sum}
+use Rattle.fields.proofs.RangesLaws.{within-sum, within-grows}
 use Rattle.guest.specs.Addresses.{amountOf}
 use Rattle.guest.specs.declared.Given.{Given}
 use Rattle.elf.specs.Header.{headerSize, programHeaderSize, e-entry, e-phoff, e-phnum, standWithin, tests, gateOf}
@@ -31,6 +31,15 @@ stand-all image n e = record { stands = λ i lt. stand i lt }
     stand i lt =
         let all = within-sum (length image) (e-phoff image) (programHeaderSize * n) (sym (some i lt) ∙ e) in
         omega arith
+
+-- program headers within a length lie within a greater one
+pub stand-grows : (len len' phoff n : ℕ) → len ≤ len' → standWithin len phoff n ≡ true → standWithin len' phoff n ≡ true
+unfolding standWithin pick
+stand-grows len len' phoff n h = split (eqb n 0)
+  where
+    split : (b : Bool) → pick b true (liesWithin len phoff (programHeaderSize * n)) ≡ true → pick b true (liesWithin len' phoff (programHeaderSize * n)) ≡ true
+    split true e = refl
+    split false e = within-grows len len' phoff (programHeaderSize * n) h e
 
 module _ (image : List ℕ) (size : ℕ) (offset highmem : Given) (opened : gateOf image size offset highmem ≡ Open) where
   pub tests-hold : AllHold (tests image size offset highmem)

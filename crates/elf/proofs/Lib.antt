@@ -5,3 +5,5 @@ pub mod PouringLaws
 pub mod FitsLaws
 pub mod Verdicts
 pub mod ByteRules
+pub mod Lengthened
+pub mod MoreRoom

@@ -6,3 +6,4 @@ pub mod Pouring
 pub mod Load
 pub mod Verdict
 pub mod ByteRule
+pub mod Lengthening
