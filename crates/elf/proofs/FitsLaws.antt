@@ -1,5 +1,4 @@
--- What the survey lets through fits: a segment that is written has its bytes in the image and in guest memory. And what its steps
--- refuse with: MemoryOverflow alone comes after its own segment is written.
+-- What the survey lets through fits: a segment that is written has its bytes in the image and in guest memory.
 use Prim.Native.Nat.{ℕ, zero, suc, _+_, _≤_, _<_}
 use mathlib.Core.Path.{_≡_, sym, _∙_, refl, subst, subst⁻¹}
 use mathlib.Core.Bool.{Bool, true}
@@ -11,7 +10,6 @@ use lib.ListN.{length, take, drop, length-take, length-drop}
 use Rattle.answers.specs.Pick.{pick}
 use Rattle.answers.proofs.PickLaws.{pick-with}
 use Rattle.answers.specs.declared.Refusal.{Refusal}
-use Rattle.answers.specs.declared.Refusal.the-variants.{MemoryOverflow}
 use Rattle.answers.specs.declared.Gate.{Gate}
 use Rattle.answers.specs.declared.Gate.the-variants.{Open, Shut}
 use Rattle.fields.proofs.RangesLaws.{within-sum}

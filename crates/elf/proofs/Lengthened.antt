@@ -8,7 +8,7 @@ use mathlib.Core.Logic.{_⊎_, ⊎-elim}
 use native.Mathlib.Omega.{arith}
 use native.Mathlib.Nat.{zero-add}
 use borrow.Author.Tests.{leb-true}
-use lib.Dec.{leb, eqb}
+use lib.Dec.{leb}
 use lib.ListN.{length, length-append}
 use Rattle.answers.specs.Pick.{pick}
 use Rattle.answers.specs.Tests.{Test}
@@ -19,7 +19,7 @@ use Rattle.answers.specs.declared.Gate.{Gate}
 use Rattle.answers.specs.declared.Gate.the-variants.{Open, Shut}
 use Rattle.answers.proofs.KeepingLaws.{equal, pick-grows, pick-same, leb-grows, row-keeps}
 use Rattle.fields.specs.Numbers.{le}
-use Rattle.fields.specs.Ranges.{liesWithin, fits64}
+use Rattle.fields.specs.Ranges.{liesWithin}
 use Rattle.fields.proofs.NumbersLaws.{le-append}
 use Rattle.fields.proofs.RangesLaws.{within-sum, within-grows}
 use Rattle.fields.proofs.TagsLaws.{tag-append}
@@ -28,7 +28,7 @@ use Rattle.guest.specs.Sizes.{allowed}
 use Rattle.guest.specs.declared.Given.{Given}
 use Rattle.guest.specs.declared.ImagePlace.{ImagePlace}
 use Rattle.guest.proofs.RoomLaws.{room-grows}
-use Rattle.elf.specs.Header.{headerSize, programHeaderSize, magic, e-entry, e-phoff, e-phnum, standWithin, tests, gateOf}
+use Rattle.elf.specs.Header.{headerSize, programHeaderSize, magic, e-entry, e-phoff, e-phnum, standWithin, fieldTests, tests, gateOf}
 use Rattle.elf.specs.ProgramHeaders.{headerPlace, headerAt, headerOf, HeadersStand}
 use Rattle.elf.specs.Notes.{noteHeaderSize, noteHeaderOf, xen, turnAt, afterTurn, walkFrom, twelves, walkOf, withoutNote, saidOf, entryOf}
 use Rattle.elf.specs.Survey.{segmentStep, saidStep, noteStep, stepOf, advanced, blank, afterStep, surveyFrom, afterGate, loadAddress, planOf}
@@ -213,19 +213,8 @@ module _ (s t : List ℕ) (Lifts : Refusal → Type 0) (lifts : (r : Refusal) �
 
     module _ (both-images : allowed (length (s ++ t)) ≡ allowed (length s)) (both-guests : allowed size' ≡ allowed size) where
       row-longer : Widens Lifts (tests s size offset highmem) (tests (s ++ t) size' offset highmem)
-      row-longer =
-          stays both-images (λ _.
-          stays both-guests (λ _.
-          length-asked (λ long.
-          stays (tag-append magic s t 0 (omega arith)) (λ _.
-          stays (ap (λ x. eqb x 1) (le-append 1 s t 5 (omega arith))) (λ _.
-          stays (ap (λ x. eqb x programHeaderSize) (le-append 2 s t 54 (omega arith))) (λ _.
-          stays (ap (leb headerSize) (le-append 8 s t 32 (omega arith))) (λ _.
-          stays (ap (leb (amountOf highmem)) (le-append 8 s t 24 (omega arith))) (λ _.
-          stays (ap (fits64 (amountOf offset)) (le-append 8 s t 24 (omega arith))) (λ _.
-          headers-asked long)))))))))
+      row-longer = stays both-images (λ _. stays both-guests (λ _. length-asked fields-asked))
         where
-          -- the two tests that ask for image bytes
           length-asked : {ts ts' : List Test} → (headerSize ≤ length s → Widens Lifts ts ts')
               → Widens Lifts ((leb headerSize (length s), ReadElfHeader) ∷ ts) ((leb headerSize (length (s ++ t)), ReadElfHeader) ∷ ts')
           length-asked rest =
@@ -233,14 +222,25 @@ module _ (s t : List ℕ) (Lifts : Refusal → Type 0) (lifts : (r : Refusal) �
               (λ l. grows (leb-grows headerSize (length s) (length (s ++ t)) longer) l (λ h. rest (leb-true headerSize (length s) h)))
               (lifts ReadElfHeader header)
 
-          headers-asked : headerSize ≤ length s
-              → Widens Lifts ((standWithin (length s) (e-phoff s) (e-phnum s), ReadProgramHeader) ∷ [])
-              ((standWithin (length (s ++ t)) (e-phoff (s ++ t)) (e-phnum (s ++ t)), ReadProgramHeader) ∷ [])
-          headers-asked long =
-              rw (le-append 8 s t 32 (omega arith), le-append 2 s t 56 (omega arith))
-              (⊎-elim (λ e. stays (ap (λ len. standWithin len (e-phoff s) (e-phnum s)) (as-long e)) (λ _. end))
+          headers-asked : Widens Lifts ((standWithin (length s) (e-phoff s) (e-phnum s), ReadProgramHeader) ∷ [])
+              ((standWithin (length (s ++ t)) (e-phoff s) (e-phnum s), ReadProgramHeader) ∷ [])
+          headers-asked =
+              ⊎-elim (λ e. stays (ap (λ len. standWithin len (e-phoff s) (e-phnum s)) (as-long e)) (λ _. end))
               (λ l. grows (stand-grows (length s) (length (s ++ t)) (e-phoff s) (e-phnum s) longer) l (λ _. end))
-              (lifts ReadProgramHeader program-header))
+              (lifts ReadProgramHeader program-header)
+
+          -- the header stands in the image as it was, so its fields are the same
+          fields-asked : headerSize ≤ length s → Widens Lifts (fieldTests s offset highmem) (fieldTests (s ++ t) offset highmem)
+          fields-asked long =
+              rw (
+                tag-append magic s t 0 (omega arith),
+                le-append 1 s t 5 (omega arith),
+                le-append 2 s t 54 (omega arith),
+                le-append 8 s t 32 (omega arith),
+                le-append 8 s t 24 (omega arith),
+                le-append 2 s t 56 (omega arith),
+              )
+              (stays refl (λ _. stays refl (λ _. stays refl (λ _. stays refl (λ _. stays refl (λ _. stays refl (λ _. headers-asked)))))))
 
       -- ---- the plan
 

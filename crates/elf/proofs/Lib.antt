@@ -4,6 +4,10 @@ pub mod SurveyLaws
 pub mod PouringLaws
 pub mod FitsLaws
 pub mod Verdicts
+pub mod Refusals
 pub mod ByteRules
+pub mod HeaderCount
 pub mod Lengthened
 pub mod MoreRoom
+pub mod Outcomes
+pub mod Cases

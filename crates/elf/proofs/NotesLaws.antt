@@ -67,11 +67,11 @@ strides image p e = skip-bounds (subst Strides e (turn-strides image p))
 
 module _ (image : List ℕ) (from size read headers : ℕ) where
   -- a note that stands in the image
-  pub walk-turn : {m : ℕ} {t : Turn} (n : ℕ) → m ≡ suc n → read < size → liesWithin (length image) from (read + noteHeaderSize) ≡ true
-      → turnAt image (from + read) ≡ t
-      → walkFrom m image from size read headers ≡ afterTurn t (suc headers) (λ k. walkFrom n image from size (read + k) (suc headers))
+  pub walk-turn : {m : ℕ} {t : Turn} (n counted : ℕ) → m ≡ suc n → counted ≡ suc headers → read < size
+      → liesWithin (length image) from (read + noteHeaderSize) ≡ true → turnAt image (from + read) ≡ t
+      → walkFrom m image from size read headers ≡ afterTurn t counted (λ k. walkFrom n image from size (read + k) counted)
   unfolding walkFrom pick
-  walk-turn n em lt stands et = rw (em, lt-ltb read size lt, stands, et)
+  walk-turn n counted em ec lt stands et = rw (em, ec, lt-ltb read size lt, stands, et)
 
   -- a note header that passes the image
   pub walk-short : {m : ℕ} (n : ℕ) → m ≡ suc n → read < size → liesWithin (length image) from (read + noteHeaderSize) ≡ false

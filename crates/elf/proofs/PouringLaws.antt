@@ -48,10 +48,10 @@ module _ (image : List ℕ) (shift : ℕ) (h : ProgramHeader) where
 -- ---- program header after program header
 
 module _ (image : List ℕ) (shift i : ℕ) (guest : List ℕ) where
-  pub stream-next : {m : ℕ} {h : ProgramHeader} (n : ℕ) → m ≡ suc n → h ≡ headerOf image i
-      → pour (streamFrom m image shift i) guest ≡ pour (streamFrom n image shift (suc i)) (pour (segmentStream image shift h) guest)
+  pub stream-next : {m : ℕ} {h : ProgramHeader} (n next : ℕ) → m ≡ suc n → next ≡ suc i → h ≡ headerOf image i
+      → pour (streamFrom m image shift i) guest ≡ pour (streamFrom n image shift next) (pour (segmentStream image shift h) guest)
   unfolding streamFrom
-  stream-next n em eh = rw (em, eh) (pour-append (segmentStream image shift (headerOf image i)) (streamFrom n image shift (suc i)) guest)
+  stream-next n next em en eh = rw (em, en, eh) (pour-append (segmentStream image shift (headerOf image i)) (streamFrom n image shift (suc i)) guest)
 
   pub stream-end : {m : ℕ} → m ≡ 0 → pour (streamFrom m image shift i) guest ≡ guest
   unfolding streamFrom pour

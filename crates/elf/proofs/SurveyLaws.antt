@@ -22,10 +22,11 @@ use Rattle.elf.proofs.HeaderLaws.{open-headers}
 -- ---- the survey, program header by program header
 
 module _ (image : List ℕ) (size : ℕ) (offset : Given) (i : ℕ) (result : KernelLoaderResult) where
-  pub survey-step : {m : ℕ} {h : ProgramHeader} {r t : Step} (n : ℕ) → m ≡ suc n → h ≡ headerOf image i → r ≡ stepOf image size offset h → r ≡ t
-      → surveyFrom m image size offset i result ≡ afterStep t i (λ e. surveyFrom n image size offset (suc i) (advanced result e))
+  pub survey-step : {m : ℕ} {h : ProgramHeader} {r t : Step} (n next : ℕ) → m ≡ suc n → next ≡ suc i → h ≡ headerOf image i
+      → r ≡ stepOf image size offset h → r ≡ t
+      → surveyFrom m image size offset i result ≡ afterStep t i (λ e. surveyFrom n image size offset next (advanced result e))
   unfolding surveyFrom
-  survey-step n em eh er et = rw (em, ← eh, ← er, et)
+  survey-step n next em en eh er et = rw (em, en, ← eh, ← er, et)
 
   pub survey-end : {m k : ℕ} → m ≡ 0 → k ≡ i → _≡_ {A = Plan} (record { answer = Loaded result; written = k }) (surveyFrom m image size offset i result)
   unfolding surveyFrom

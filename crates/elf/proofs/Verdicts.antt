@@ -1,17 +1,14 @@
 -- "A number is given exactly when its turn comes and its condition holds", for a whole load: the verdict says which rule decides, and
 -- each rule, where its turn comes, decides.
--- "A refused load leaves exactly the segments before the refusal written": the plan counts them, MemoryOverflow alone writes its own.
+-- "A refused load leaves exactly the segments before the refusal written": the verdict counts them (Refusals: which refusal writes its own).
 use Prim.Native.Nat.{ℕ, zero, suc, _+_, _≤_, _<_}
 use mathlib.Core.Path.{_≡_, sym, _∙_, refl, ap, subst, subst⁻¹}
-use mathlib.Core.Bool.{Bool}
 use mathlib.Core.List.{List}
 use native.Mathlib.Omega.{arith}
 use native.Mathlib.Decide.{decLe}
 use native.Mathlib.Nat.{add-zero, zero-add}
-use Rattle.answers.specs.Pick.{pick}
 use Rattle.answers.specs.Tests.{AllHold, FirstFails}
 use Rattle.answers.specs.declared.Refusal.{Refusal}
-use Rattle.answers.specs.declared.Refusal.the-variants.{MemoryOverflow}
 use Rattle.answers.specs.declared.Gate.{Gate}
 use Rattle.answers.specs.declared.Gate.the-variants.{Open, Shut}
 use Rattle.answers.proofs.TestsLaws.{all-open, shut-first, first-shut}

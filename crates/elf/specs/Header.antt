@@ -48,13 +48,10 @@ e-phnum image = le 2 image 56
 unfoldable pub standWithin : ℕ → ℕ → ℕ → Bool
 standWithin len phoff n = pick (eqb n 0) true (liesWithin len phoff (programHeaderSize * n))
 
--- the tests before the program headers, in order, for guest memory of this size
-abbrev pub tests : List ℕ → ℕ → Given → Given → List Test
-tests image size offset highmem =
-    (allowed (length image), refusal.SliceTooLong)
-    ∷ (allowed size, refusal.SliceTooLong)
-    ∷ (leb headerSize (length image), refusal.ReadElfHeader)
-    ∷ (tagAt magic image 0, refusal.InvalidElfMagicNumber)
+-- the tests of the header's fields, in order
+abbrev pub fieldTests : List ℕ → Given → Given → List Test
+fieldTests image offset highmem =
+    (tagAt magic image 0, refusal.InvalidElfMagicNumber)
     ∷ (eqb (ei-data image) 1, refusal.BigEndianElfOnLittle)
     ∷ (eqb (e-phentsize image) programHeaderSize, refusal.InvalidProgramHeaderSize)
     ∷ (leb headerSize (e-phoff image), refusal.InvalidProgramHeaderOffset)
@@ -62,6 +59,14 @@ tests image size offset highmem =
     ∷ (fits64 (amountOf offset) (e-entry image), refusal.Overflow)
     ∷ (standWithin (length image) (e-phoff image) (e-phnum image), refusal.ReadProgramHeader)
     ∷ []
+
+-- the tests before the program headers, in order, for guest memory of this size
+abbrev pub tests : List ℕ → ℕ → Given → Given → List Test
+tests image size offset highmem =
+    (allowed (length image), refusal.SliceTooLong)
+    ∷ (allowed size, refusal.SliceTooLong)
+    ∷ (leb headerSize (length image), refusal.ReadElfHeader)
+    ∷ fieldTests image offset highmem
 
 unfoldable pub gateOf : List ℕ → ℕ → Given → Given → Gate
 gateOf image size offset highmem = askedAll Open (tests image size offset highmem)

@@ -1,10 +1,9 @@
 -- `notes::walk_notes`: what is left of the walk, from what is read on, is the whole walk; each note passed over is twelve bytes or more.
 use borrow.Author.Needs.{needs}
-use Prim.Native.Nat.{suc, _+_, _*_, _-_, _≤_}
+use Prim.Native.Nat.{_+_, _*_, _-_, _≤_}
 use mathlib.Core.Path.{_≡_, sym, _∙_}
 use native.Mathlib.Omega.{arith}
 use native.Mathlib.Nat.{sub-zero}
-use native.Mathlib.Numerals.{add-one}
 use Rattle.fields.proofs.RangesLaws.{within-sum}
 use lib.ListN.{length}
 use Rattle.answers.proofs.PickLaws.{failed, held}
@@ -27,7 +26,7 @@ returns c =
     let args = c .before .before .before .before .before .args in
     let at-turn = c .before .before .before .loop in
     let short = failed (c .before .within .ensures) (c .if1 .taken) in
-    sym (walk-short (args .image .now) (args .p-offset .0) (args .p-filesz) (at-turn .read) (at-turn .headers) (twelves (args .p-filesz) - suc (at-turn .headers)) (omega arith) (omega arith) short)
+    sym (walk-short (args .image .now) (args .p-offset .0) (args .p-filesz) (at-turn .read) (at-turn .headers) (twelves (args .p-filesz) - (at-turn .headers + 1)) (omega arith) (omega arith) short)
     ∙ at-turn .inv .2
 
 add-note-at : tie.Need-add-note-at Inv-loop μ-loop
@@ -42,7 +41,7 @@ returns-2 c =
     let args = c .before .before .before .before .before .before .before .before .before .args in
     let at-turn = c .before .before .before .before .before .before .before .loop in
     let told = sym (c .before .before .before .note-at .ensures) ∙ c .before .turn .given .1 in
-    rw add-one (sym (walk-turn (args .image .now) (args .p-offset .0) (args .p-filesz) (at-turn .read) (at-turn .headers) (twelves (args .p-filesz) - suc (at-turn .headers)) (omega arith) (omega arith) (held (c .before .before .before .before .before .within .ensures) (c .before .before .before .before .if1 .left)) told) ∙ at-turn .inv .2)
+    sym (walk-turn (args .image .now) (args .p-offset .0) (args .p-filesz) (at-turn .read) (at-turn .headers) (twelves (args .p-filesz) - (at-turn .headers + 1)) (at-turn .headers + 1) (omega arith) (omega arith) (omega arith) (held (c .before .before .before .before .before .within .ensures) (c .before .before .before .before .if1 .left)) told) ∙ at-turn .inv .2
 
 returns-3 : tie.Need-returns-3 Inv-loop μ-loop
 unfolding walkOf
@@ -50,7 +49,7 @@ returns-3 c =
     let args = c .before .before .before .before .before .before .before .before .before .args in
     let at-turn = c .before .before .before .before .before .before .before .loop in
     let told = sym (c .before .before .before .note-at .ensures) ∙ c .before .turn2 .given .1 in
-    rw add-one (sym (walk-turn (args .image .now) (args .p-offset .0) (args .p-filesz) (at-turn .read) (at-turn .headers) (twelves (args .p-filesz) - suc (at-turn .headers)) (omega arith) (omega arith) (held (c .before .before .before .before .before .within .ensures) (c .before .before .before .before .if1 .left)) told) ∙ at-turn .inv .2)
+    sym (walk-turn (args .image .now) (args .p-offset .0) (args .p-filesz) (at-turn .read) (at-turn .headers) (twelves (args .p-filesz) - (at-turn .headers + 1)) (at-turn .headers + 1) (omega arith) (omega arith) (omega arith) (held (c .before .before .before .before .before .within .ensures) (c .before .before .before .before .if1 .left)) told) ∙ at-turn .inv .2
 
 add-read : tie.Need-add-read Inv-loop μ-loop
 add-read c =
@@ -76,7 +75,7 @@ loop-again c =
     let told = sym (c .before .before .before .note-at .ensures) ∙ c .before .turn3 .given .1 in
     let stride = strides (args .image .now) (args .p-offset .0 + at-turn .read) told in
     let stands = within-sum _ _ _ (held (c .before .before .before .before .before .within .ensures) (c .before .before .before .before .if1 .left)) in
-    (omega arith, omega arith, rw add-one (sym (walk-turn (args .image .now) (args .p-offset .0) (args .p-filesz) (at-turn .read) (at-turn .headers) (twelves (args .p-filesz) - suc (at-turn .headers)) (omega arith) (omega arith) (held (c .before .before .before .before .before .within .ensures) (c .before .before .before .before .if1 .left)) told) ∙ at-turn .inv .2))
+    (omega arith, omega arith, sym (walk-turn (args .image .now) (args .p-offset .0) (args .p-filesz) (at-turn .read) (at-turn .headers) (twelves (args .p-filesz) - (at-turn .headers + 1)) (at-turn .headers + 1) (omega arith) (omega arith) (omega arith) (held (c .before .before .before .before .before .within .ensures) (c .before .before .before .before .if1 .left)) told) ∙ at-turn .inv .2)
 
 returns-4 : tie.Need-returns-4 Inv-loop μ-loop
 unfolding walkOf

@@ -1,9 +1,8 @@
 -- `pouring::pour_segments`: what is left to pour, from header i on, makes of memory what the whole makes of it as it was.
-use Prim.Native.Nat.{suc, _+_, _-_, _≤_}
+use Prim.Native.Nat.{_+_, _-_, _≤_}
 use mathlib.Core.Path.{_≡_, sym, _∙_, refl, ap}
 use native.Mathlib.Omega.{arith}
 use native.Mathlib.Nat.{sub-zero}
-use native.Mathlib.Numerals.{add-one}
 use lib.ListN.{length}
 use Rattle.guest.specs.Stream.{pour}
 use Rattle.guest.proofs.StreamLaws.{length-pour}
@@ -27,8 +26,8 @@ loop-again c =
     let at-turn = c .before .before .before .before .before .before .loop in (
       omega arith,
       omega arith,
-      rw (add-one, c .before .before .pour-segment .ensures)
-          (sym (stream-next (args .image .now) (args .shift) (at-turn .i) (at-turn .guest) (args .k - suc (at-turn .i)) (omega arith) (c .before .before .before .before .read-header .ensures)) ∙ at-turn .inv .2),
+      rw (c .before .before .pour-segment .ensures)
+          (sym (stream-next (args .image .now) (args .shift) (at-turn .i) (at-turn .guest) (args .k - (at-turn .i + 1)) (at-turn .i + 1) (omega arith) (omega arith) (c .before .before .before .before .read-header .ensures)) ∙ at-turn .inv .2),
     )
 
 returns : tie.Need-returns Inv-loop μ-loop

@@ -1,6 +1,6 @@
 -- `survey::survey`: what is left of the survey, from header i on, is the whole survey.
 use borrow.Author.Needs.{needs}
-use Prim.Native.Nat.{suc, _-_, _≤_}
+use Prim.Native.Nat.{_+_, _-_, _≤_}
 use mathlib.Core.Path.{_≡_, sym, _∙_}
 use native.Mathlib.Omega.{arith}
 use native.Mathlib.Nat.{sub-zero}
@@ -23,19 +23,19 @@ returns : tie.Need-returns Inv-loop μ-loop
 returns c =
     let args = c .before .before .before .before .before .before .before .before .args in
     let at-turn = c .before .before .before .before .before .before .loop in
-    sym (survey-step (args .image .now) (args .guest-len) (args .offset) (at-turn .i) (at-turn .result) (args .n - suc (at-turn .i)) (omega arith) (c .before .before .before .before .read-header .ensures) (c .before .before .before .examine .ensures) (c .before .step2 .given .1)) ∙ at-turn .inv .1
+    sym (survey-step (args .image .now) (args .guest-len) (args .offset) (at-turn .i) (at-turn .result) (args .n - (at-turn .i + 1)) (at-turn .i + 1) (omega arith) (omega arith) (c .before .before .before .before .read-header .ensures) (c .before .before .before .examine .ensures) (c .before .step2 .given .1)) ∙ at-turn .inv .1
 
 returns-2 : tie.Need-returns-2 Inv-loop μ-loop
 returns-2 c =
     let args = c .before .before .before .before .before .before .before .before .args in
     let at-turn = c .before .before .before .before .before .before .loop in
-    rw add-one (sym (survey-step (args .image .now) (args .guest-len) (args .offset) (at-turn .i) (at-turn .result) (args .n - suc (at-turn .i)) (omega arith) (c .before .before .before .before .read-header .ensures) (c .before .before .before .examine .ensures) (c .before .step3 .given .1)) ∙ at-turn .inv .1)
+    rw add-one (sym (survey-step (args .image .now) (args .guest-len) (args .offset) (at-turn .i) (at-turn .result) (args .n - (at-turn .i + 1)) (at-turn .i + 1) (omega arith) (omega arith) (c .before .before .before .before .read-header .ensures) (c .before .before .before .examine .ensures) (c .before .step3 .given .1)) ∙ at-turn .inv .1)
 
 loop-again : tie.Need-loop-again Inv-loop μ-loop
 loop-again c =
     let args = c .before .before .before .before .before .before .before .before .before .args in
     let at-turn = c .before .before .before .before .before .before .before .loop in
-    (omega arith, rw (add-one, c .advance .ensures) (sym (survey-step (args .image .now) (args .guest-len) (args .offset) (at-turn .i) (at-turn .result) (args .n - suc (at-turn .i)) (omega arith) (c .before .before .before .before .before .read-header .ensures) (c .before .before .before .before .examine .ensures) (c .before .before .step .given .1)) ∙ at-turn .inv .1))
+    (omega arith, rw (c .advance .ensures) (sym (survey-step (args .image .now) (args .guest-len) (args .offset) (at-turn .i) (at-turn .result) (args .n - (at-turn .i + 1)) (at-turn .i + 1) (omega arith) (omega arith) (c .before .before .before .before .before .read-header .ensures) (c .before .before .before .before .examine .ensures) (c .before .before .step .given .1)) ∙ at-turn .inv .1))
 
 returns-3 : tie.Need-returns-3 Inv-loop μ-loop
 returns-3 c =
