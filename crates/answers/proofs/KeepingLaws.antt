@@ -1,17 +1,16 @@
 -- Laws of what is kept: through a pick, a map, a row of tests.
-use mathlib.Core.Path.{_≡_, sym, _∙_, refl, ap, subst, subst⁻¹, subst₂}
+use mathlib.Core.Path.{_≡_, sym, _∙_, refl, subst, subst⁻¹, subst₂}
 use mathlib.Core.Bool.{Bool, true, false}
-use mathlib.Core.List.{List, [], _∷_}
+use mathlib.Core.List.{List}
 use Prim.Native.Nat.{ℕ, _≤_}
 use native.Mathlib.Omega.{arith}
 use borrow.Author.Tests.{leb-true, le-leb}
 use lib.Dec.{leb}
 use Rattle.answers.specs.Pick.{pick}
-use Rattle.answers.specs.Tests.{Test, asked, askedAll}
+use Rattle.answers.specs.Tests.{Test, askedAll}
 use Rattle.answers.specs.Keeping.{Keeps, same, lifted, ShutBy, shut-by, Widens, end, stays, grows}
 use Rattle.answers.specs.declared.Refusal.{Refusal}
-use Rattle.answers.specs.declared.Gate.{Gate}
-use Rattle.answers.specs.declared.Gate.the-variants.{Open, Shut}
+use Rattle.answers.specs.declared.Gate.the-variants.{Open}
 use Rattle.answers.proofs.TestsLaws.{first-held, first-failed, by-first}
 
 module _ {A : Type 0} (Lifts : A → Type 0) where

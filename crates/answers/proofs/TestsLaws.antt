@@ -8,7 +8,6 @@ use native.Mathlib.Omega.{arith}
 use Rattle.answers.specs.Pick.{pick}
 use Rattle.answers.specs.Tests.{Test, asked, askedAll, AllHold, FirstFails, here, later}
 use Rattle.answers.specs.declared.Refusal.{Refusal}
-use Rattle.answers.specs.declared.Gate.{Gate}
 use Rattle.answers.specs.declared.Gate.the-variants.{Open, Shut}
 
 -- a gate that is shut stays so

@@ -2,7 +2,7 @@
 use Prim.Native.Nat.{ℕ, zero, suc, _+_, _/_, _%_}
 use mathlib.Core.Path.{_≡_, refl}
 use mathlib.Core.List.{List, [], _∷_, _++_, map}
-use lib.ListN.{replicate, length}
+use lib.ListN.{replicate}
 use Rattle.answers.specs.Pick.{pick}
 use Rattle.answers.specs.Tests.{asked}
 use Rattle.answers.specs.declared.Refusal.the-variants as refusal
@@ -22,7 +22,6 @@ use Rattle.elf.specs.Notes.{noteHeaderOf, isWanted, skipOf, turnAt, walk
 use Rattle.elf.specs.Survey.{segmentStep, noteStep, stepOf, advanced, surveyFrom, planOf}
 use Rattle.elf.specs.Pouring.{segmentStream, streamFrom, streamOf, poured}
 use Rattle.elf.specs.Load.{answerOf}
-use Rattle.elf.specs.declared.PvhBootCapability.{PvhBootCapability}
 use Rattle.elf.specs.declared.PvhBootCapability.the-variants.{PvhEntryPresent, PvhEntryIgnored}
 use Rattle.elf.specs.declared.Answer.{Answer}
 use Rattle.elf.specs.declared.Answer.the-variants.{Loaded, Refused}

@@ -1,13 +1,11 @@
 -- What the survey lets through fits: a segment that is written has its bytes in the image and in guest memory.
 use Prim.Native.Nat.{ℕ, zero, suc, _+_, _≤_, _<_}
-use mathlib.Core.Path.{_≡_, sym, _∙_, refl, subst, subst⁻¹}
-use mathlib.Core.Bool.{Bool, true}
-use mathlib.Core.List.{List, []}
+use mathlib.Core.Path.{_≡_, refl, subst}
+use mathlib.Core.List.{List}
 use native.Mathlib.Omega.{arith}
 use native.Mathlib.Decide.{decLe, ℕ-discrete}
 use borrow.Author.Tests.{eqb-true, eqb-false}
-use lib.ListN.{length, take, drop, length-take, length-drop}
-use Rattle.answers.specs.Pick.{pick}
+use lib.ListN.{length, length-take}
 use Rattle.answers.proofs.PickLaws.{pick-with}
 use Rattle.answers.specs.declared.Refusal.{Refusal}
 use Rattle.answers.specs.declared.Gate.{Gate}

@@ -1,11 +1,8 @@
 -- "The note walk reads never more than one header for each twelve bytes begun of `p_filesz`": few-headers, of the count that the public
 -- walk answers; and the same of the count inside, beside a refusal too.
 use Prim.Native.Nat.{ℕ, zero, suc, _+_, _≤_}
-use mathlib.Core.Path.{_≡_, refl}
-use mathlib.Core.Bool.{Bool}
 use mathlib.Core.List.{List}
 use native.Mathlib.Omega.{arith}
-use Rattle.answers.specs.Pick.{pick}
 use Rattle.answers.proofs.PickLaws.{pick-with}
 use Rattle.guest.specs.declared.ImagePlace.{ImagePlace}
 use Rattle.elf.specs.Notes.{turnAt, afterTurn, walkFrom, walkOf, twelves, saidOf, entryOf, told, publicNote}

@@ -1,8 +1,8 @@
 -- The plan when the image is lengthened by t and guest memory to size': it is the same, or it refused with what may lift. One argument
 -- serves the image and guest memory, alone and together: a refusal for image bytes lifts, or nothing was added to the image.
-use Prim.Native.Nat.{ℕ, zero, suc, _+_, _*_, _≤_, _<_}
-use mathlib.Core.Path.{_≡_, sym, _∙_, refl, ap, subst, subst⁻¹}
-use mathlib.Core.Bool.{Bool, true, false}
+use Prim.Native.Nat.{ℕ, zero, suc, _+_, _≤_}
+use mathlib.Core.Path.{_≡_, _∙_, refl, ap, subst, subst⁻¹}
+use mathlib.Core.Bool.{true}
 use mathlib.Core.List.{List, [], _∷_, _++_, append-nil}
 use mathlib.Core.Logic.{_⊎_, ⊎-elim}
 use native.Mathlib.Omega.{arith}
@@ -14,11 +14,10 @@ use Rattle.answers.specs.Pick.{pick}
 use Rattle.answers.specs.Tests.{Test}
 use Rattle.answers.specs.Keeping.{Keeps, same, lifted, ShutBy, shut-by, Widens, end, stays, grows}
 use Rattle.answers.specs.declared.Refusal.{Refusal}
-use Rattle.answers.specs.declared.Refusal.the-variants.{ReadElfHeader, ReadProgramHeader, ReadKernelImage, ReadNoteHeader}
+use Rattle.answers.specs.declared.Refusal.the-variants.{ReadElfHeader, ReadProgramHeader, ReadKernelImage}
 use Rattle.answers.specs.declared.Gate.{Gate}
 use Rattle.answers.specs.declared.Gate.the-variants.{Open, Shut}
-use Rattle.answers.proofs.KeepingLaws.{equal, pick-grows, pick-same, leb-grows, row-keeps}
-use Rattle.fields.specs.Numbers.{le}
+use Rattle.answers.proofs.KeepingLaws.{pick-grows, pick-same, leb-grows, row-keeps}
 use Rattle.fields.specs.Ranges.{liesWithin}
 use Rattle.fields.proofs.NumbersLaws.{le-append}
 use Rattle.fields.proofs.RangesLaws.{within-sum, within-grows}
@@ -28,7 +27,7 @@ use Rattle.guest.specs.Sizes.{allowed}
 use Rattle.guest.specs.declared.Given.{Given}
 use Rattle.guest.specs.declared.ImagePlace.{ImagePlace}
 use Rattle.guest.proofs.RoomLaws.{room-grows}
-use Rattle.elf.specs.Header.{headerSize, programHeaderSize, magic, e-entry, e-phoff, e-phnum, standWithin, fieldTests, tests, gateOf}
+use Rattle.elf.specs.Header.{headerSize, programHeaderSize, magic, e-phoff, e-phnum, standWithin, fieldTests, tests, gateOf}
 use Rattle.elf.specs.ProgramHeaders.{headerPlace, headerAt, headerOf, HeadersStand}
 use Rattle.elf.specs.Notes.{noteHeaderSize, noteHeaderOf, xen, turnAt, afterTurn, walkFrom, twelves, walkOf, withoutNote, saidOf, entryOf}
 use Rattle.elf.specs.Survey.{segmentStep, saidStep, noteStep, stepOf, advanced, blank, afterStep, surveyFrom, afterGate, loadAddress, planOf}

@@ -8,7 +8,7 @@ use mathlib.Core.List.{List, [], _++_, append-nil}
 use mathlib.Core.Logic.{_⊎_, inl, inr}
 use native.Mathlib.Omega.{arith}
 use native.Mathlib.Decide.{decLe, ℕ-discrete}
-use lib.ListN.{length, take, drop, length-append, length-drop}
+use lib.ListN.{length, drop, length-append, length-drop}
 use lib.Seq.{take-append-le, drop-append-le}
 use Rattle.answers.specs.declared.Refusal.{Refusal}
 use Rattle.answers.specs.declared.Refusal.the-variants.{ReadKernelImage}
@@ -20,7 +20,7 @@ use Rattle.guest.specs.Stream.{pour}
 use Rattle.guest.specs.declared.Given.{Given}
 use Rattle.guest.proofs.RoomLaws.{allowed-both}
 use Rattle.guest.proofs.StreamLaws.{pour-longer}
-use Rattle.elf.specs.ProgramHeaders.{headerPlace, headerOf, HeadersStand}
+use Rattle.elf.specs.ProgramHeaders.{headerPlace, headerOf}
 use Rattle.elf.specs.Survey.{planOf}
 use Rattle.elf.specs.Pouring.{segmentStream, streamFrom, streamOf, poured}
 use Rattle.elf.specs.Load.{LoadSays, answerOf}
@@ -29,7 +29,7 @@ use Rattle.elf.specs.declared.Answer.{Answer}
 use Rattle.elf.specs.declared.program_headers.ProgramHeader.{ProgramHeader}
 use Rattle.elf.specs.declared.survey.Plan.{Plan}
 use Rattle.elf.proofs.SurveyLaws.{plan-stands}
-use Rattle.elf.proofs.PouringLaws.{stream-none, stream-empty, stream-loads, segmentBytes}
+use Rattle.elf.proofs.PouringLaws.{stream-none, stream-empty, stream-loads}
 use Rattle.elf.proofs.FitsLaws.{FitsIfAny, plan-fits, plan-inside}
 use Rattle.elf.proofs.Lengthened.{header-append, LiftPlan, plan-longer}
 

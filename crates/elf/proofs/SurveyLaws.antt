@@ -1,6 +1,6 @@
 -- Laws of the survey and of the plan.
-use Prim.Native.Nat.{ℕ, zero, suc, _+_, _≤_, _<_}
-use mathlib.Core.Path.{_≡_, sym, _∙_, refl, ap, subst⁻¹}
+use Prim.Native.Nat.{ℕ, zero, suc, _+_, _≤_}
+use mathlib.Core.Path.{_≡_, refl}
 use mathlib.Core.List.{List}
 use native.Mathlib.Omega.{arith}
 use Rattle.answers.specs.declared.Refusal.{Refusal}
@@ -9,7 +9,7 @@ use Rattle.answers.specs.declared.Gate.the-variants.{Open, Shut}
 use Rattle.guest.specs.declared.Given.{Given}
 use Rattle.elf.specs.Header.{e-phnum, gateOf}
 use Rattle.elf.specs.ProgramHeaders.{headerOf, HeadersStand}
-use Rattle.elf.specs.Survey.{stepOf, advanced, blank, afterStep, surveyFrom, afterGate, loadAddress, planOf}
+use Rattle.elf.specs.Survey.{stepOf, advanced, blank, afterStep, surveyFrom, loadAddress, planOf}
 use Rattle.elf.specs.declared.KernelLoaderResult.{KernelLoaderResult}
 use Rattle.elf.specs.declared.Answer.the-variants.{Loaded, Refused}
 use Rattle.elf.specs.declared.program_headers.ProgramHeader.{ProgramHeader}

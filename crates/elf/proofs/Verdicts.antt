@@ -7,6 +7,7 @@ use mathlib.Core.List.{List}
 use native.Mathlib.Omega.{arith}
 use native.Mathlib.Decide.{decLe}
 use native.Mathlib.Nat.{add-zero, zero-add}
+use Rattle.answers.specs.Catalogue.{numberOf}
 use Rattle.answers.specs.Tests.{AllHold, FirstFails}
 use Rattle.answers.specs.declared.Refusal.{Refusal}
 use Rattle.answers.specs.declared.Gate.{Gate}
@@ -15,9 +16,9 @@ use Rattle.answers.proofs.TestsLaws.{all-open, shut-first, first-shut}
 use Rattle.guest.specs.declared.Given.{Given}
 use Rattle.elf.specs.Header.{tests, gateOf, e-phnum}
 use Rattle.elf.specs.Survey.{advanced, blank, afterStep, surveyFrom, loadAddress, planOf}
+use Rattle.elf.specs.Load.{answerOf, answerNumber}
 use Rattle.elf.specs.Verdict.{Passes, passes, AllPass, FirstStops, unwritten, written, stepAt, Verdict, by-test, by-header, accepted}
 use Rattle.elf.specs.declared.KernelLoaderResult.{KernelLoaderResult}
-use Rattle.elf.specs.declared.Answer.{Answer}
 use Rattle.elf.specs.declared.Answer.the-variants.{Loaded, Refused}
 use Rattle.elf.specs.declared.survey.Step.{Step}
 use Rattle.elf.specs.declared.survey.Step.the-variants.{Pass, Stop, StopWritten}
@@ -171,3 +172,19 @@ module _ (image : List ℕ) (size : ℕ) (offset highmem : Given) where
 
   pub verdict : Verdict image size offset highmem plan
   verdict = by-gate (gateOf image size offset highmem) refl
+
+  -- in the catalogue's numbers
+
+  pub test-number : {r : Refusal} → FirstFails r (tests image size offset highmem) → answerNumber (answerOf image size offset highmem) ≡ numberOf r
+  unfolding answerNumber
+  test-number fails = ap (λ (p : Plan). answerNumber (p .answer)) (test-decides fails)
+
+  pub header-number : {r : Refusal} {w : ℕ} → AllHold (tests image size offset highmem) → FirstStops (stepAt image size offset) (e-phnum image) r w
+      → answerNumber (answerOf image size offset highmem) ≡ numberOf r
+  unfolding answerNumber
+  header-number hold stops = ap (λ (p : Plan). answerNumber (p .answer)) (header-decides hold stops)
+
+  pub accepted-number : AllHold (tests image size offset highmem) → AllPass (stepAt image size offset) (e-phnum image)
+      → answerNumber (answerOf image size offset highmem) ≡ 0
+  unfolding answerNumber
+  accepted-number hold all-pass = ap (λ (p : Plan). answerNumber (p .answer)) (none-decides hold all-pass .is)

@@ -18,7 +18,6 @@ use Rattle.elf.specs.ProgramHeaders.{headerOf}
 use Rattle.elf.specs.Notes.{entryOf}
 use Rattle.elf.specs.declared.PvhBootCapability.the-variants as pvh
 use Rattle.elf.specs.declared.KernelLoaderResult.{KernelLoaderResult}
-use Rattle.elf.specs.declared.Answer.{Answer}
 use Rattle.elf.specs.declared.Answer.the-variants.{Loaded, Refused}
 use Rattle.elf.specs.declared.NoteAnswer.{NoteAnswer}
 use Rattle.elf.specs.declared.NoteAnswer.the-variants as answer

@@ -11,7 +11,6 @@
 // Loading an ELF kernel. A load is a plan, made of the image, the size of guest memory and the options alone, and a pouring: the
 // segments of the program headers that the plan lets through, in file order.
 ghost use mathlib.Core.Path.{_≡_};
-ghost use lib.ListN.{length};
 ghost use Rattle.elf.specs.Load.{LoadSays};
 ghost use Rattle.elf.specs.Notes.{publicNote};
 use answers::Refusal;

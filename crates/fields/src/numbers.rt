@@ -1,7 +1,6 @@
 // Little-endian numbers at a place of a slice. A byte past the end counts as 0.
 ghost use mathlib.Core.Path.{_≡_};
 ghost use Prim.Native.Nat.{_+_, _<_, _≤_};
-ghost use lib.ListN.{getD};
 ghost use Rattle.fields.specs.Numbers.{ReadAs};
 
 // A byte as a wide number.

@@ -1,7 +1,7 @@
 -- A copied part is the pouring of its bytes: what is stored at the front of the part of memory that begins at an address, is stored
 -- in memory at that address.
 use Prim.Native.Nat.{ℕ, suc, _+_, _-_, _≤_, min}
-use mathlib.Core.Path.{_≡_, sym, _∙_, refl, ap}
+use mathlib.Core.Path.{_≡_, sym, _∙_, ap}
 use mathlib.Core.List.{List, [], _∷_, _++_, append-nil}
 use native.Mathlib.Omega.{arith}
 use native.Mathlib.Nat.{add-zero, add-suc}

@@ -1,6 +1,6 @@
 -- How long an image and guest memory may be.
 use mathlib.Core.Bool.{Bool}
-use Prim.Native.Nat.{ℕ, _^_}
+use Prim.Native.Nat.{ℕ}
 use lib.Dec.{leb}
 
 -- the longest image and the longest guest memory, 2^40 bytes

@@ -1,6 +1,5 @@
 -- `header::stand_within`: by the count, as the definition goes.
 use borrow.Author.Needs.{needs}
-use mathlib.Core.Path.{sym, _∙_}
 use borrow.Author.Tests.{eq-eqb, ne-eqb}
 use Rattle.answers.specs.Pick.{pick}
 use Rattle.elf.specs.Header.{standWithin}

@@ -1,5 +1,4 @@
 -- `notes::is_wanted`: by the type, as the definition goes.
-use mathlib.Core.Path.{sym}
 use borrow.Author.Tests.{eq-eqb, ne-eqb}
 use Rattle.answers.specs.Pick.{pick}
 use Rattle.elf.specs.Notes.{isWanted}

@@ -1,6 +1,5 @@
 -- `notes::note_at`: by the tests, as the definition asks them.
 use borrow.Author.Needs.{needs}
-use mathlib.Core.Path.{sym, _∙_}
 use Rattle.answers.proofs.PickLaws.{failed, held}
 use Rattle.answers.specs.Pick.{pick}
 use Rattle.elf.specs.Notes.{turnAt}

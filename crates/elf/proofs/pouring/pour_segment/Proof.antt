@@ -2,7 +2,7 @@
 use borrow.Author.Needs.{needs}
 use native.Mathlib.Omega.{arith}
 use Rattle.fields.proofs.RangesLaws.{within-sum, beyond-sum}
-use mathlib.Core.Path.{sym, _∙_}
+use mathlib.Core.Path.{_∙_}
 use Rattle.answers.proofs.PickLaws.{failed, held}
 use Rattle.elf.proofs.PouringLaws.{pour-none, pour-loads, pour-beyond}
 use Rattle.elf.proofs.pouring.pour_segment.Statement.{statement}

@@ -1,11 +1,10 @@
 -- `pouring::pour_segments`: what is left to pour, from header i on, makes of memory what the whole makes of it as it was.
 use Prim.Native.Nat.{_+_, _-_, _≤_}
-use mathlib.Core.Path.{_≡_, sym, _∙_, refl, ap}
+use mathlib.Core.Path.{_≡_, sym, _∙_, refl}
 use native.Mathlib.Omega.{arith}
 use native.Mathlib.Nat.{sub-zero}
 use lib.ListN.{length}
 use Rattle.guest.specs.Stream.{pour}
-use Rattle.guest.proofs.StreamLaws.{length-pour}
 use Rattle.elf.specs.Pouring.{streamFrom}
 use Rattle.elf.proofs.PouringLaws.{stream-next, stream-end}
 use Rattle.elf.proofs.pouring.pour_segments.Statement.{statement}

@@ -1,6 +1,6 @@
 -- `survey::advance`: by cases, as the definition goes.
 use borrow.Author.Needs.{needs}
-use mathlib.Core.Path.{ap, sym, _∙_}
+use mathlib.Core.Path.{ap, sym}
 use Rattle.elf.specs.Survey.{advanced}
 use Rattle.elf.proofs.survey.advance.Statement.{statement}
 use Rattle.elf.proofs.survey.advance.Tie as tie
