@@ -1,0 +1,4 @@
+pub mod SetupHeaderLaws
+pub mod HeaderLaws
+pub mod KernelLaws
+pub mod PlanLaws
