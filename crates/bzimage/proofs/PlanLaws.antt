@@ -22,7 +22,7 @@ use Rattle.bzimage.specs.declared.Answer.the-variants.{Loaded, Refused}
 use Rattle.bzimage.specs.declared.KernelLoaderResult.{KernelLoaderResult}
 use Rattle.bzimage.specs.declared.Outcome.{Outcome}
 use Rattle.bzimage.specs.Kernel.{setupSize, kernelSize, kernelOf, startOf, loadOf}
-use Rattle.bzimage.specs.Plan.{roomFor, tests, gateOf, loadedAt, refusedAs, afterGate, planOf, streamOf, guestAfter}
+use Rattle.bzimage.specs.Plan.{roomFor, tests, gateOf, loadedAs, loadedAt, refusedAs, afterGate, planOf, streamOf, guestAfter}
 use Rattle.bzimage.proofs.KernelLaws.{kernel-bytes}
 
 -- where some bytes have room, they have it in guest memory
@@ -64,7 +64,7 @@ module _ (s : List ℕ) (size : ℕ) (offset highmem : Given) where
       → (gateOf s size offset highmem ≡ Open) × (k .«kernel_load» ≡ loadOf s offset)
   unfolding loadedAt refusedAs
   loaded-by {k} Open eg ea =
-      let e : _≡_ {A = KernelLoaderResult} (record { «kernel_load» = loadOf s offset; «kernel_end» = record { 0 = loadOf s offset .0 + kernelSize s } }) k = cc in
+      let e : _≡_ {A = KernelLoaderResult} (loadedAs s (loadOf s offset)) k = cc in
       (eg, ap (λ (q : KernelLoaderResult). q .«kernel_load») (sym e))
   loaded-by (Shut refusal) eg ea = let z : _≡_ {A = ℕ} 0 1 = cc in absurd (omega arith)
 
@@ -72,6 +72,20 @@ module _ (s : List ℕ) (size : ℕ) (offset highmem : Given) where
       → (gateOf s size offset highmem ≡ Open) × (k .«kernel_load» ≡ loadOf s offset)
   unfolding planOf
   plan-loaded e = loaded-by (gateOf s size offset highmem) refl e
+
+  -- the whole outcome, by its answer
+  pub loaded-outcome : {k : KernelLoaderResult} → planOf s size offset highmem .answer ≡ Loaded k → planOf s size offset highmem ≡ loadedAt s (k .«kernel_load»)
+  loaded-outcome e = let loaded = plan-loaded e in plan-open (loaded .0) ∙ ap (loadedAt s) (sym (loaded .1))
+
+  refused-by : {refusal : Refusal} (gate : Gate) → gateOf s size offset highmem ≡ gate → afterGate gate (loadedAt s (loadOf s offset)) .answer ≡ Refused refusal
+      → gateOf s size offset highmem ≡ Shut refusal
+  unfolding loadedAt refusedAs
+  refused-by Open eg ea = let z : _≡_ {A = ℕ} 0 1 = cc in absurd (omega arith)
+  refused-by {refusal} (Shut first) eg ea = let e : _≡_ {A = Refusal} first refusal = cc in eg ∙ ap Shut e
+
+  pub refused-outcome : {refusal : Refusal} → planOf s size offset highmem .answer ≡ Refused refusal → planOf s size offset highmem ≡ refusedAs refusal
+  unfolding planOf
+  refused-outcome e = plan-shut (refused-by (gateOf s size offset highmem) refl e)
 
   -- a loaded kernel of some bytes lies in guest memory
   pub loaded-room : {k : KernelLoaderResult} → planOf s size offset highmem .answer ≡ Loaded k → 0 < kernelSize s

@@ -21,6 +21,7 @@ use Rattle.guest.specs.Sizes.{allowed}
 use Rattle.guest.specs.Stream.{Poke, pour, streamAt}
 use Rattle.bzimage.specs.declared.Answer.{Answer}
 use Rattle.bzimage.specs.declared.Answer.the-variants.{Loaded, Refused}
+use Rattle.bzimage.specs.declared.KernelLoaderResult.{KernelLoaderResult}
 use Rattle.bzimage.specs.declared.Outcome.{Outcome}
 use Rattle.bzimage.specs.SetupHeader.{headerMagic, version, loadflags}
 use Rattle.bzimage.specs.Header.{headerOf}
@@ -49,9 +50,11 @@ unfoldable pub gateOf : List ℕ → ℕ → Given → Given → Gate
 gateOf image size offset highmem = askedAll Open (tests image size offset highmem)
 
 -- a kernel loaded at an address: it ends its size after it
+abbrev pub loadedAs : List ℕ → GuestAddress → KernelLoaderResult
+loadedAs image load = record { «kernel_load» = load; «kernel_end» = record { 0 = load .0 + kernelSize image } }
+
 unfoldable pub loadedAt : List ℕ → GuestAddress → Outcome
-loadedAt image load =
-    record { answer = Loaded (record { «kernel_load» = load; «kernel_end» = record { 0 = load .0 + kernelSize image } }); «setup_header» = headerOf image (load .0) }
+loadedAt image load = record { answer = Loaded (loadedAs image load); «setup_header» = headerOf image (load .0) }
 
 -- a refusal: the header beside it is all zero
 unfoldable pub refusedAs : Refusal → Outcome
