@@ -46,13 +46,9 @@ pub fn load(guest: &mut [u8], kernel_offset: Given, image: &[u8], highmem_start:
     let answer = outcome.answer;
     match answer {
         Answer::Loaded(loaded) => {
-            copying::copy_image(
-                guest,
-                loaded.kernel_load,
-                image,
-                ImagePlace(kernel::setup_size(image)),
-                kernel::kernel_size(image),
-            );
+            let setup = kernel::setup_size(image);
+            let size = kernel::kernel_size(image);
+            copying::copy_image(guest, loaded.kernel_load, image, ImagePlace(setup), size);
             outcome
         }
         Answer::Refused(_) => outcome,

@@ -70,7 +70,8 @@ pub fn plan_load(image: &[u8], size: u64, offset: Given, highmem: Given) -> Outc
         Gate::Shut(refusal) => refused(refusal),
         Gate::Open => {
             let load = addresses::given_or(offset, kernel::code32_start(image));
-            let end = load.0 + kernel::kernel_size(image);
+            let bytes = kernel::kernel_size(image);
+            let end = load.0 + bytes;
             let header = header::header_with(image, load);
             let loaded = KernelLoaderResult {
                 kernel_load: load,

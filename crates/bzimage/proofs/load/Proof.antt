@@ -11,12 +11,12 @@ returns c =
     let args = c .before .before .before .before .before .before .before .before .before .before .before .before .args in
     let planned = c .before .before .before .before .before .before .before .before .before .plan-load .ensures in
     let loaded = sym (ap (λ (o : Outcome). o .answer) planned) ∙ c .before .before .before .before .before .before .before .answer .given .1 in
-    let copied = c .before .before .copy-image .ensures in
+    let setup = c .before .before .before .before .before .setup-size .ensures in
+    let size = c .before .before .before .before .kernel-size .ensures in
     record {
       outcome = planned;
       written =
-          copied-after (args .image .now) (args .kernel-offset) (args .highmem-start) (args .guest .now) loaded (c .before .before .before .before .setup-size .ensures)
-          (c .before .before .before .kernel-size .ensures) copied;
+          copied-after (args .image .now) (args .kernel-offset) (args .highmem-start) (args .guest .now) loaded setup size (c .before .before .copy-image .ensures);
     }
 
 returns-2 : tie.Need-returns-2
