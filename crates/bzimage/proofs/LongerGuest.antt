@@ -59,7 +59,7 @@ module _ (s : List ℕ) (size size' : ℕ) (offset highmem : Given) (longer : si
       → answerNumber (planOf s size offset highmem .answer) ≡ numberOf ReadBzImageCompressedKernel
   unfolding answerNumber refusedAs
   lifts-number e (shut-by {refusal} l) =
-      ap (λ (o : Outcome). answerNumber (o .answer)) (plan-shut s size offset highmem e) ∙ ap numberOf l
+      ap (λ (o : Outcome). answerNumber (o .answer)) (plan-shut s size offset highmem refl e) ∙ ap numberOf l
 
   plan-longer : (answerNumber (planOf s size offset highmem .answer) ≡ numberOf ReadBzImageCompressedKernel → ⊥)
       → planOf s size' offset highmem ≡ planOf s size offset highmem

@@ -40,24 +40,24 @@ module _ (s : List ℕ) (size : ℕ) (offset highmem : Given) where
   open-room e lt = room-some size (loadOf s offset .0) (kernelSize s) (gate-open e .1 .1 .1 .1 .1 .1 .1 .0) lt
 
   -- so its end is a number of 64 bits, as the size and the address are
-  pub open-end : gateOf s size offset highmem ≡ Open → {start load : GuestAddress} {n : ℕ} → start ≡ startOf s → load ≡ givenOr offset start
+  pub open-end : {gate : Gate} {start load : GuestAddress} {n : ℕ} → gate ≡ gateOf s size offset highmem → gate ≡ Open → start ≡ startOf s → load ≡ givenOr offset start
       → n ≡ kernelSize s → load .0 < 2 ^ 64 → size < 2 ^ 64 → load .0 + n < 2 ^ 64
-  open-end e {start} {load} {n} es el en small short = by-size n en
+  open-end {gate} {start} {load} {n} eg e es el en small short = by-size n en
     where
       at : load .0 ≡ loadOf s offset .0
       at = ap (λ (a : GuestAddress). a .0) (el ∙ ap (givenOr offset) es)
 
       by-size : (n : ℕ) → n ≡ kernelSize s → load .0 + n < 2 ^ 64
       by-size zero ez = omega arith
-      by-size (suc k) ez = let room = open-room e (omega arith) in omega (arith, at)
+      by-size (suc k) ez = let room = open-room (sym eg ∙ e) (omega arith) in omega (arith, at)
 
-  pub plan-open : gateOf s size offset highmem ≡ Open → planOf s size offset highmem ≡ loadedAt s (loadOf s offset)
+  pub plan-open : {gate : Gate} → gate ≡ gateOf s size offset highmem → gate ≡ Open → planOf s size offset highmem ≡ loadedAt s (loadOf s offset)
   unfolding planOf
-  plan-open e = rw e
+  plan-open eg e = rw (sym eg ∙ e)
 
-  pub plan-shut : {refusal : Refusal} → gateOf s size offset highmem ≡ Shut refusal → planOf s size offset highmem ≡ refusedAs refusal
+  pub plan-shut : {gate : Gate} {refusal : Refusal} → gate ≡ gateOf s size offset highmem → gate ≡ Shut refusal → planOf s size offset highmem ≡ refusedAs refusal
   unfolding planOf
-  plan-shut e = rw e
+  plan-shut eg e = rw (sym eg ∙ e)
 
   -- a plan, by its answer
   loaded-by : {k : KernelLoaderResult} (gate : Gate) → gateOf s size offset highmem ≡ gate → afterGate gate (loadedAt s (loadOf s offset)) .answer ≡ Loaded k
@@ -75,7 +75,7 @@ module _ (s : List ℕ) (size : ℕ) (offset highmem : Given) where
 
   -- the whole outcome, by its answer
   pub loaded-outcome : {k : KernelLoaderResult} → planOf s size offset highmem .answer ≡ Loaded k → planOf s size offset highmem ≡ loadedAt s (k .«kernel_load»)
-  loaded-outcome e = let loaded = plan-loaded e in plan-open (loaded .0) ∙ ap (loadedAt s) (sym (loaded .1))
+  loaded-outcome e = let loaded = plan-loaded e in plan-open refl (loaded .0) ∙ ap (loadedAt s) (sym (loaded .1))
 
   refused-by : {refusal : Refusal} (gate : Gate) → gateOf s size offset highmem ≡ gate → afterGate gate (loadedAt s (loadOf s offset)) .answer ≡ Refused refusal
       → gateOf s size offset highmem ≡ Shut refusal
@@ -85,7 +85,7 @@ module _ (s : List ℕ) (size : ℕ) (offset highmem : Given) where
 
   pub refused-outcome : {refusal : Refusal} → planOf s size offset highmem .answer ≡ Refused refusal → planOf s size offset highmem ≡ refusedAs refusal
   unfolding planOf
-  refused-outcome e = plan-shut (refused-by (gateOf s size offset highmem) refl e)
+  refused-outcome e = plan-shut refl (refused-by (gateOf s size offset highmem) refl e)
 
   -- a loaded kernel of some bytes lies in guest memory
   pub loaded-room : {k : KernelLoaderResult} → planOf s size offset highmem .answer ≡ Loaded k → 0 < kernelSize s

@@ -53,11 +53,11 @@ module _ (image : List ℕ) (offset highmem : Given) (guest : List ℕ) {r : Out
   -- what the contract says, by how the row of tests ends
   row-open : askedAll Open row ≡ Open → r ≡ accepted
   unfolding gateOf
-  row-open e = loads .outcome ∙ plan-open image (length guest) offset highmem e
+  row-open e = loads .outcome ∙ plan-open image (length guest) offset highmem refl e
 
   row-shut : {refusal : Refusal} → askedAll Open row ≡ Shut refusal → r ≡ refusedAs refusal
   unfolding gateOf
-  row-shut e = loads .outcome ∙ plan-shut image (length guest) offset highmem e
+  row-shut e = loads .outcome ∙ plan-shut image (length guest) offset highmem refl e
 
   -- every test holds: the kernel is loaded, with its address, its end and its header
   pub accepted-where : AllHold row → r ≡ accepted

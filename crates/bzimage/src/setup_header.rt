@@ -6,45 +6,45 @@ use fields::numbers;
 
 // The sizes of the thirty-nine fields, in order.
 const SIZES: [u8; 39] = [
-    1,
-    2,
-    4,
-    2,
-    2,
-    2,
-    2,
-    2,
-    4,
-    2,
-    4,
-    2,
-    2,
-    1,
-    1,
-    2,
-    4,
-    4,
-    4,
-    4,
-    2,
-    1,
-    1,
-    4,
-    4,
-    4,
-    1,
-    1,
-    2,
-    4,
-    4,
-    8,
-    4,
-    4,
-    8,
-    8,
-    4,
-    4,
-    4,
+    1, // setup_sects
+    2, // root_flags
+    4, // syssize
+    2, // ram_size
+    2, // vid_mode
+    2, // root_dev
+    2, // boot_flag
+    2, // jump
+    4, // header
+    2, // version
+    4, // realmode_swtch
+    2, // start_sys_seg
+    2, // kernel_version
+    1, // type_of_loader
+    1, // loadflags
+    2, // setup_move_size
+    4, // code32_start
+    4, // ramdisk_image
+    4, // ramdisk_size
+    4, // bootsect_kludge
+    2, // heap_end_ptr
+    1, // ext_loader_ver
+    1, // ext_loader_type
+    4, // cmd_line_ptr
+    4, // initrd_addr_max
+    4, // kernel_alignment
+    1, // relocatable_kernel
+    1, // min_alignment
+    2, // xloadflags
+    4, // cmdline_size
+    4, // hardware_subarch
+    8, // hardware_subarch_data
+    4, // payload_offset
+    4, // payload_length
+    8, // setup_data
+    8, // pref_address
+    4, // init_size
+    4, // handover_offset
+    4, // kernel_info_offset
 ];
 
 // The fields that a load uses, by their number in the table.

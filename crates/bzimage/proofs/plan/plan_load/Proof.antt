@@ -10,26 +10,27 @@ use Rattle.bzimage.proofs.plan.plan_load.Tie as tie
 add-end : tie.Need-add-end
 add-end c =
     let args = c .before .before .before .before .before .before .before .before .args in
-    let opens = sym (c .before .before .before .before .before .before .validate .ensures) ∙ c .before .before .before .before .enum-told .given .1 in
+    let asked = c .before .before .before .before .before .before .validate .ensures in
+    let opens = c .before .before .before .before .enum-told .given .1 in
     record {
       fits =
-          open-end (args .image .now) (args .size) (args .offset) (args .highmem) opens (c .before .before .before .code32-start .ensures) (c .before .before .given-or .ensures)
+          open-end (args .image .now) (args .size) (args .offset) (args .highmem) asked opens (c .before .before .before .code32-start .ensures) (c .before .before .given-or .ensures)
           (c .before .kernel-size .ensures) (omega arith) (omega arith);
     }
 
 returns : tie.Need-returns
 returns c =
     let args = c .before .before .before .before .before .before .args in
-    let shut = sym (c .before .before .before .before .validate .ensures) ∙ c .before .before .gate .given .1 in
-    c .refused .ensures ∙ sym (plan-shut (args .image .now) (args .size) (args .offset) (args .highmem) shut)
+    let asked = c .before .before .before .before .validate .ensures in
+    c .refused .ensures ∙ sym (plan-shut (args .image .now) (args .size) (args .offset) (args .highmem) asked (c .before .before .gate .given .1))
 
 returns-2 : tie.Need-returns-2
 unfolding loadedAt
 returns-2 c =
     let args = c .before .before .before .before .before .before .before .before .before .args in
-    let opens = sym (c .before .before .before .before .before .before .before .validate .ensures) ∙ c .before .before .before .before .before .enum-told .given .1 in
+    let asked = c .before .before .before .before .before .before .before .validate .ensures in
     rw (c .header-with .ensures, c .before .before .kernel-size .ensures, c .before .before .before .given-or .ensures, c .before .before .before .before .code32-start .ensures)
-    (sym (plan-open (args .image .now) (args .size) (args .offset) (args .highmem) opens))
+    (sym (plan-open (args .image .now) (args .size) (args .offset) (args .highmem) asked (c .before .before .before .before .before .enum-told .given .1)))
 
 pub plan-load-spec : {M : Type 1} → statement M
 plan-load-spec =
