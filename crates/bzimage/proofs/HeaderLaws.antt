@@ -5,12 +5,12 @@ use mathlib.Core.List.{List, [], _∷_}
 use native.Mathlib.Omega.{arith}
 use native.Mathlib.Decide.{decLe}
 use native.Mathlib.Nat.{add-zero, add-suc}
-use lib.ListN.{length, getD, set, take, drop, replicate, length-drop, drop-of-length-le}
+use lib.ListN.{length, getD, set, drop, replicate, length-drop, drop-of-length-le}
 use lib.Seq.{sets, take-all, getD-drop}
 use borrow.Rule.Slice.PartMut.{midOf}
 use Rattle.fields.proofs.CopyingLaws.{sets-out}
-use Rattle.bzimage.specs.SetupHeader.{headerStart, placeOf}
-use Rattle.bzimage.specs.Header.{bytesFrom, bytesOf, headerRead, headerOf}
+use Rattle.bzimage.specs.SetupHeader.{placeOf}
+use Rattle.bzimage.specs.Header.{bytesFrom, bytesOf, headerOf}
 use Rattle.bzimage.proofs.SetupHeaderLaws.{at-setup-sects, at-code32-start}
 
 -- ---- zeros, of which the front is stored over

@@ -13,7 +13,6 @@ use Rattle.answers.specs.Keeping.{Keeps, ShutBy, shut-by, Widens, end, stays, g
 use Rattle.answers.specs.declared.Refusal.{Refusal}
 use Rattle.answers.specs.declared.Refusal.the-variants.{ReadBzImageCompressedKernel}
 use Rattle.answers.specs.declared.Gate.{Gate}
-use Rattle.answers.specs.declared.Gate.the-variants.{Open, Shut}
 use Rattle.answers.proofs.KeepingLaws.{row-keeps, kept}
 use Rattle.guest.specs.declared.Given.{Given}
 use Rattle.guest.specs.Room.{room}

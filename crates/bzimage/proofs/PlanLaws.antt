@@ -2,7 +2,7 @@
 use Prim.Native.Nat.{ℕ, zero, suc, _+_, _^_, _≤_, _<_}
 use mathlib.Core.Path.{_≡_, sym, _∙_, refl, ap}
 use mathlib.Core.Bool.{true}
-use mathlib.Core.List.{List, []}
+use mathlib.Core.List.{List}
 use native.Mathlib.Omega.{arith}
 use borrow.Author.Tests.{ne-eqb}
 use lib.ListN.{length}
@@ -17,12 +17,10 @@ use Rattle.guest.specs.declared.GuestAddress.{GuestAddress}
 use Rattle.guest.specs.Addresses.{givenOr}
 use Rattle.guest.specs.Stream.{bytesAt, pour, streamAt}
 use Rattle.guest.proofs.RoomLaws.{room-sum}
-use Rattle.bzimage.specs.declared.Answer.{Answer}
 use Rattle.bzimage.specs.declared.Answer.the-variants.{Loaded, Refused}
 use Rattle.bzimage.specs.declared.KernelLoaderResult.{KernelLoaderResult}
-use Rattle.bzimage.specs.declared.Outcome.{Outcome}
 use Rattle.bzimage.specs.Kernel.{setupSize, kernelSize, kernelOf, startOf, loadOf}
-use Rattle.bzimage.specs.Plan.{roomFor, tests, gateOf, loadedAs, loadedAt, refusedAs, afterGate, planOf, streamOf, guestAfter}
+use Rattle.bzimage.specs.Plan.{roomFor, tests, gateOf, loadedAs, loadedAt, refusedAs, afterGate, planOf, guestAfter}
 use Rattle.bzimage.proofs.KernelLaws.{kernel-bytes}
 
 -- where some bytes have room, they have it in guest memory

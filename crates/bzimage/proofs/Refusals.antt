@@ -13,13 +13,12 @@ use Rattle.answers.specs.declared.Gate.the-variants.{Open, Shut}
 use Rattle.answers.proofs.TestsLaws.{open-all, all-open, shut-first, first-shut}
 use Rattle.guest.specs.declared.Given.{Given}
 use Rattle.guest.specs.declared.GuestAddress.{GuestAddress}
-use Rattle.bzimage.specs.declared.Answer.{Answer}
 use Rattle.bzimage.specs.declared.Answer.the-variants.{Loaded, Refused}
 use Rattle.bzimage.specs.declared.KernelLoaderResult.{KernelLoaderResult}
 use Rattle.bzimage.specs.declared.Outcome.{Outcome}
 use Rattle.bzimage.specs.Answers.{answerNumber, answerValues}
 use Rattle.bzimage.specs.Kernel.{kernelSize, loadOf}
-use Rattle.bzimage.specs.Plan.{tests, gateOf, loadedAs, loadedAt, refusedAs, planOf, Loads}
+use Rattle.bzimage.specs.Plan.{tests, gateOf, loadedAs, loadedAt, refusedAs, Loads}
 use Rattle.bzimage.proofs.PlanLaws.{plan-open, plan-shut}
 
 -- the turn of a number comes and its condition holds: of the first test that fails, it is the refusal's number

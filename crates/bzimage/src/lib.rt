@@ -8,7 +8,6 @@
 // SPDX-License-Identifier: Apache-2.0 AND BSD-3-Clause
 
 // Big zImage (bzImage) kernels. A load is a plan, made of the image, the size of guest memory and the options alone, and its pouring.
-ghost use lib.ListN.{length};
 ghost use Rattle.bzimage.specs.Plan.{Loads};
 use answers::Refusal;
 use guest::Given;

@@ -8,12 +8,11 @@ use lib.ListN.{length}
 use Rattle.fields.specs.Ranges.{top64}
 use Rattle.fields.proofs.NumbersLaws.{read-same}
 use Rattle.guest.specs.declared.ImagePlace.{ImagePlace}
-use Rattle.reading.specs.declared.NoteHeader.{NoteHeader}
 use Rattle.reading.specs.declared.Reader.{Reader}
 use Rattle.reading.specs.declared.Taken.{Taken}
 use Rattle.reading.specs.Notes.{NoteHeaderRead}
 use Rattle.reading.specs.Readers.{readerAt, Takes}
-use Rattle.reading.proofs.ReadersLaws.{Stands, new-stands, reads-there, stands-past}
+use Rattle.reading.proofs.ReadersLaws.{new-stands, reads-there, stands-past}
 
 -- three numbers of four bytes, each taken where the one before it ended
 pub note-header-read : (image : RefT (List ℕ)) (at : ImagePlace) {r : Reader} {name desc kind : Taken} → length (now image) ≤ top64 → at .0 ≤ top64
@@ -26,5 +25,5 @@ note-header-read image at short small e takes₁ takes₂ takes₃ =
     record {
       name = reads-there image (at .0) 4 at₁ takes₁ short;
       desc = reads-there image (at .0 + 4) 4 at₂ takes₂ short;
-      kind = read-same {n = 4} {m = 4} (omega arith) (omega arith) (reads-there image (at .0 + 4 + 4) 4 at₃ takes₃ short)
+      kind = read-same {n = 4} {m = 4} (omega arith) (omega arith) (reads-there image (at .0 + 4 + 4) 4 at₃ takes₃ short);
     }

@@ -1,18 +1,18 @@
 -- A reader that goes from number to number reads what a slice and a place would: it stands at the place, or, where no number of 64 bits
 -- says that place, at the greatest one, and reads 0 at both.
 use Prim.Native.Nat.{ℕ, zero, suc, _+_, _≤_, min}
-use mathlib.Core.Path.{_≡_, refl, sym, _∙_, ap, subst₂}
+use mathlib.Core.Path.{_≡_, refl, sym, _∙_, ap}
 use mathlib.Core.List.{List}
 use native.Mathlib.Omega.{arith}
 use native.Mathlib.Decide.{decLe}
 use denote.Ref.{RefT, now}
-use lib.ListN.{length, getD, List·getD-eq-default}
+use lib.ListN.{length, List·getD-eq-default}
 use Rattle.fields.specs.Numbers.{le, ReadAs}
 use Rattle.fields.specs.Ranges.{top64}
 use Rattle.guest.specs.declared.ImagePlace.{ImagePlace}
 use Rattle.reading.specs.declared.Reader.{Reader}
 use Rattle.reading.specs.declared.Taken.{Taken}
-use Rattle.reading.specs.Places.{widthOf, placePast}
+use Rattle.reading.specs.Places.{widthOf}
 use Rattle.reading.specs.Readers.{readerAt, Takes}
 
 -- a reader of this image stands at p
@@ -24,7 +24,7 @@ pub new-stands : (image : RefT (List ℕ)) (at : ImagePlace) {reader : Reader} �
 new-stands image at small e =
     record {
       over = ap (λ (r : Reader). r .image) e;
-      at-place = ap (λ (r : Reader). r .at .0) e ∙ (let same : at .0 ≡ min (at .0) top64 = omega arith in same)
+      at-place = ap (λ (r : Reader). r .at .0) e ∙ (let same : at .0 ≡ min (at .0) top64 = omega arith in same);
     }
 
 -- past the end every number is 0
@@ -54,7 +54,7 @@ module _ (image : RefT (List ℕ)) (p width : ℕ) {reader : Reader} {t : Taken}
             ∙ ap (λ (i : RefT (List ℕ)). le (widthOf width) (now i) (reader .at .0)) (stands .over)
             ∙ ap (le (widthOf width) (now image)) (stands .at-place)
             ∙ le-clipped (widthOf width) (now image) p short;
-        small = takes .number .small
+        small = takes .number .small;
       }
 
   -- and where the reader stands then
@@ -65,5 +65,5 @@ module _ (image : RefT (List ℕ)) (p width : ℕ) {reader : Reader} {t : Taken}
         at-place =
             let there = stands .at-place in
             ap (λ (r : Reader). r .at .0) (takes .past)
-            ∙ (let same : min (reader .at .0 + widthOf width) top64 ≡ min (p + widthOf width) top64 = omega arith in same)
+            ∙ (let same : min (reader .at .0 + widthOf width) top64 ≡ min (p + widthOf width) top64 = omega arith in same);
       }

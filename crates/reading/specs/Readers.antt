@@ -3,19 +3,14 @@ use Prim.Native.Nat.{ℕ}
 use mathlib.Core.Path.{_≡_}
 use mathlib.Core.List.{List}
 use denote.Ref.{RefT, now}
-use Rattle.fields.specs.Numbers.{ReadAs}
 use Rattle.guest.specs.declared.ImagePlace.{ImagePlace}
 use Rattle.reading.specs.declared.Reader.{Reader}
 use Rattle.reading.specs.declared.Taken.{Taken}
-use Rattle.reading.specs.Places.{widthOf, placePast}
+use Rattle.reading.specs.Places.{NumberAt, placePast}
 
 -- a reader of an image at a place
 abbrev pub readerAt : RefT (List ℕ) → ImagePlace → Reader
 readerAt image at = record { image = image; at = at }
-
--- the number of this width at a place
-abbrev pub NumberAt : List ℕ → ℕ → ℕ → ℕ → Type 0
-NumberAt image at width r = ReadAs (widthOf width) image at r
 
 -- what is taken: the number at the reader's place, and the reader past it
 pub record Takes (reader : Reader) (width : ℕ) (t : Taken) : Type 0 where

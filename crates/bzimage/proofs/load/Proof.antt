@@ -1,6 +1,6 @@
 -- `bzimage::load`: the plan answers, and where it loads, the copy pours its stream.
 use borrow.Author.Needs.{needs}
-use mathlib.Core.Path.{_≡_, sym, ap, _∙_}
+use mathlib.Core.Path.{sym, ap, _∙_}
 use Rattle.bzimage.specs.declared.Outcome.{Outcome}
 use Rattle.bzimage.proofs.PlanLaws.{copied-after, refused-after}
 use Rattle.bzimage.proofs.load.Statement.{statement}

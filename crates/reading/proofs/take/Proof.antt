@@ -2,7 +2,7 @@
 -- place. The reader is Copy: what it owns is had twice, one copy is kept whole for the exit, and of the other what the image owns goes
 -- to the callee, beside the lifetime's token, which comes back.
 use mathlib.Core.Path.{_≡_, refl, ap}
-use Prim.Native.Nat.{ℕ, _<_, _≤_, _^_, _+_}
+use Prim.Native.Nat.{ℕ, _<_, _^_}
 use mathlib.Core.List.{[], _∷_}
 use lib.Dec.{T as Holds}
 use lib.ListN.{length}
@@ -21,7 +21,7 @@ use contract.Monad.{Fun, fact}
 use contract.Running.{givenOf, tables, tablesOf}
 use types.Kit.{Given, ‵, raw, _⊛_, given, ⋆, some, later, _$_, _∵_, !, qed, by, move, drop, use1, use2, rewrite, split, join, learn, pick, fsplit, fjoin, suffices, frame, await, done}
 use types.Part.{whole, sub, look-in, agg}
-use types.Run.{look, init, forget, stop, fld, from, load, of-opd, bin, lit, and-then, no-more, assigns, land, returns, enter, alloc1, alloc0, params1, pass1, pass0, free1, free0}
+use types.Run.{look, init, forget, stop, fld, from, load, of-opd, and-then, no-more, assigns, land, returns, enter, alloc1, alloc0, params1, pass1, pass0, free1, free0}
 use sound.WpLaws.{FmC, fmOf, WpFn-mono}
 use denote.RattleType.{RattleType, owns}
 use denote.Laws.{Is, shows}
@@ -40,11 +40,11 @@ use denote.Triple.Call.{calls-at}
 use denote.Triple.Entry.{Vals, onEntry}
 use denote.Triple.Spec.{Meets, tripleOf}
 use denote.Triple.Table.{entered, cited}
-use denote.Triple.Walked.{says, needs, Stays, stay-none, walkOf, goes-none, Walks, ends-at, walked, walk-meets}
+use denote.Triple.Walked.{says, Stays, stay-none, walkOf, goes-none, Walks, ends-at, walked, walk-meets}
 use denote.Exit.{yes}
 use denote.Triple.Clauses.{ensured, lasts}
-use Rattle.reading.specs.Places.{placePast}
-use Rattle.reading.specs.Readers.{readerAt, NumberAt, Takes}
+use Rattle.reading.specs.Places.{NumberAt, placePast}
+use Rattle.reading.specs.Readers.{readerAt, Takes}
 use Rattle.reading.specs.declared.Reader.{Reader}
 use Rattle.guest.proofs.ImagePlace as P
 use Rattle.guest.proofs.ImagePlace.Laws as P′
@@ -54,14 +54,14 @@ use Rattle.reading.proofs.Reader as T
 use Rattle.reading.proofs.Taken as K
 use Rattle.reading.proofs.Taken.Laws as K′
 use Rattle.reading.proofs.Reader.Laws as T′
-use Rattle.reading.proofs.number_at as number
-use Rattle.reading.proofs.number_at.Symbol as number-def
-use Rattle.reading.proofs.number_at.Symbol.{name as #reading·number-at}
-use Rattle.reading.proofs.number_at.Met as number-thm
-use Rattle.reading.proofs.place_past as past
-use Rattle.reading.proofs.place_past.Symbol as past-def
-use Rattle.reading.proofs.place_past.Symbol.{name as #reading·place-past}
-use Rattle.reading.proofs.place_past.Met as past-thm
+use Rattle.reading.proofs.places.number_at as number
+use Rattle.reading.proofs.places.number_at.Symbol as number-def
+use Rattle.reading.proofs.places.number_at.Symbol.{name as #reading·places·number-at}
+use Rattle.reading.proofs.places.number_at.Met as number-thm
+use Rattle.reading.proofs.places.place_past as past
+use Rattle.reading.proofs.places.place_past.Symbol as past-def
+use Rattle.reading.proofs.places.place_past.Symbol.{name as #reading·places·place-past}
+use Rattle.reading.proofs.places.place_past.Met as past-thm
 use Rattle.reading.proofs.take.Key.{name as #reading·take}
 use Rattle.reading.proofs.take as own
 use Rattle.reading.proofs.take.Statement as stated
@@ -162,7 +162,7 @@ module _ {M : Type 1} (𝓤 : URA M) (H : Heap 𝓤) (A : Atoms 𝓤) (W : Given
       nothing ! $ move ! (1 ∷ 0 ∷ []) $ fjoin ! $ owned ! u64 (Is u64) (uint-makes 𝓤 H A W w64) r _ (refl, fits) $ fjoin ! $
       by ! (own-shut 𝓤 H A W (K.the-type (namedLft 1 0 tt (κ, tt))) (K′.the-laws (namedLft 1 0 tt (κ, tt))) (r, (moved p, tt)))
 
-  module _ (C : Calls 𝓤 H) (Λ : Loops 𝓤 H) (fm : FmC 𝓤 H (W .laws) C) (known-number : Triple 𝓤 (C #reading·number-at) (Number 𝓤 H A mem run)) (known-past : Triple 𝓤 (C #reading·place-past) (Past 𝓤 H A mem run)) where
+  module _ (C : Calls 𝓤 H) (Λ : Loops 𝓤 H) (fm : FmC 𝓤 H (W .laws) C) (known-number : Triple 𝓤 (C #reading·places·number-at) (Number 𝓤 H A mem run)) (known-past : Triple 𝓤 (C #reading·places·place-past) (Past 𝓤 H A mem run)) where
     walk : Holds (hasTy (T′.mir (named 0)) mach) × WT mach → ent 𝓤 (onEntry 𝓤 H A own.signature (κ, tt) (q, tt) (d, (n, tt)) both) (WpFn 𝓤 H C Λ code.function (mach ∷ vint w64 n ∷ []) Post)
     walk wt =
         qed W (raw (onEntry 𝓤 H A own.signature (κ, tt) (q, tt) (d, (n, tt)) both) ∷ []) ∵ enter ! C Λ code.function (mach ∷ vint w64 n ∷ []) _ $
@@ -197,13 +197,13 @@ module _ {M : Type 1} (𝓤 : URA M) (H : Heap 𝓤) (A : Atoms 𝓤) (W : Given
         by ! (exits r p (is .1) (LL.owes P.the-type P′.the-laws p (LL.owed P.the-type P′.the-laws p _ is₁)) (record { number = e; past = ap (readerAt (d .image)) e₁ }))))))))))))))))))))
 
 module _ {M : Type 1} (𝓤 : URA M) (H : Heap 𝓤) (A : Atoms 𝓤) (W : Given 𝓤 H A) (mem : Memory → SProp 𝓤) (run : Routine → Fun 𝓤) where
-  take-walks : (C : Calls 𝓤 H) (Λ : Loops 𝓤 H) → FmC 𝓤 H (W .laws) C → Triple 𝓤 (C #reading·number-at) (Number 𝓤 H A mem run) → Triple 𝓤 (C #reading·place-past) (Past 𝓤 H A mem run)
+  take-walks : (C : Calls 𝓤 H) (Λ : Loops 𝓤 H) → FmC 𝓤 H (W .laws) C → Triple 𝓤 (C #reading·places·number-at) (Number 𝓤 H A mem run) → Triple 𝓤 (C #reading·places·place-past) (Past 𝓤 H A mem run)
       → Walks 𝓤 H A own.ended stayed (WpFn 𝓤 H C Λ code.function) (own.clauses 𝓤 H A mem run)
   take-walks C Λ fm known-number known-past = walked 𝓤 H A own.ended stayed (own.clauses 𝓤 H A mem run) (WpFn 𝓤 H C Λ code.function) (λ κs. (LL.vals (T.the-type (namedLft 1 0 tt κs)) (T′.the-laws (namedLft 1 0 tt κs)), (uint-vals w64, tt))) (λ κs. (LL.tells (T.the-type (namedLft 1 0 tt κs)) (T′.the-laws (namedLft 1 0 tt κs)), (uint-tells w64, tt)))
       (λ κs qs bounds a g are. via 𝓤 _ (fst∗ 𝓤 _ (emp 𝓤)) (walk 𝓤 H A W mem run (κs .0) (qs .0) (a .0) (a .1 .0) (are .1 .0 .1) (LL.owed (T.the-type (namedLft 1 0 tt κs)) (T′.the-laws (namedLft 1 0 tt κs)) (a .0) _ (are .0) .1 .0) C Λ fm known-number known-past (LL.lawful (T.the-type (namedLft 1 0 tt κs)) (T′.the-laws (namedLft 1 0 tt κs)) 𝓤 H A W .typed (a .0) _ (are .0) .0)))
 
 take-meets : {M : Type 1} (𝓤 : URA M) (H : Heap 𝓤) (A : Atoms 𝓤) (W : Given 𝓤 H A) (mem : Memory → SProp 𝓤) (run : Routine → Fun 𝓤) (𝓣 : Tables 𝓤 H)
-    → Triple 𝓤 (𝓣 .C #reading·number-at) (Number 𝓤 H A mem run) → Triple 𝓤 (𝓣 .C #reading·place-past) (Past 𝓤 H A mem run)
+    → Triple 𝓤 (𝓣 .C #reading·places·number-at) (Number 𝓤 H A mem run) → Triple 𝓤 (𝓣 .C #reading·places·place-past) (Past 𝓤 H A mem run)
     → Meets 𝓤 H A own.signature (WpFn 𝓤 H (𝓣 .C) (𝓣 .Λ) code.function) (own.spec 𝓤 H A mem run)
 take-meets 𝓤 H A W mem run 𝓣 known-number known-past = walk-meets 𝓤 H A own.ended stayed W (goes-none 𝓤 H A W 1 B yes (λ κs x f. refl), (goes-none 𝓤 H A W 1 (λ _. u64) yes (λ κs x f. refl), tt)) (own.clauses 𝓤 H A mem run) (WpFn 𝓤 H (𝓣 .C) (𝓣 .Λ) code.function) (WpFn-mono 𝓤 H (W .laws) 𝓣 code.function)
     (take-walks 𝓤 H A W mem run (𝓣 .C) (𝓣 .Λ) (fmOf 𝓤 H (W .laws) 𝓣) known-number known-past)
@@ -214,5 +214,5 @@ take-spec 𝓤 H 𝓜 𝓖 𝓡 =
     entered 𝓤 H (tripleOf 𝓤 H (𝓖 .A) own.signature (own.spec 𝓤 H (𝓖 .A) (𝓜 .mem) (𝓡 .run)))
     (tables 𝓤 H 𝓜 𝓡 code.env .C) (tables 𝓤 H 𝓜 𝓡 code.env .Λ) #reading·take code.function (code.unfolded 𝓤 H 𝓜 𝓡)
     (take-meets 𝓤 H (𝓖 .A) (givenOf 𝓤 H 𝓜 𝓖) (𝓜 .mem) (𝓡 .run) (tablesOf 𝓤 H 𝓜 (tables 𝓤 H 𝓜 𝓡 code.env))
-    (cited 𝓤 H (Number 𝓤 H (𝓖 .A) (𝓜 .mem) (𝓡 .run)) 𝓜 𝓡 code.env #reading·number-at number-def.routine code.calls-reading·number-at (number-thm.met 𝓤 H 𝓜 𝓖 𝓡))
-    (cited 𝓤 H (Past 𝓤 H (𝓖 .A) (𝓜 .mem) (𝓡 .run)) 𝓜 𝓡 code.env #reading·place-past past-def.routine code.calls-reading·place-past (past-thm.met 𝓤 H 𝓜 𝓖 𝓡)))
+    (cited 𝓤 H (Number 𝓤 H (𝓖 .A) (𝓜 .mem) (𝓡 .run)) 𝓜 𝓡 code.env #reading·places·number-at number-def.routine code.calls-reading·places·number-at (number-thm.met 𝓤 H 𝓜 𝓖 𝓡))
+    (cited 𝓤 H (Past 𝓤 H (𝓖 .A) (𝓜 .mem) (𝓡 .run)) 𝓜 𝓡 code.env #reading·places·place-past past-def.routine code.calls-reading·places·place-past (past-thm.met 𝓤 H 𝓜 𝓖 𝓡)))

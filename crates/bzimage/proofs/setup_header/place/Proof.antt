@@ -1,6 +1,6 @@
 -- `setup_header::place`: after i turns the sum is the place of field i.
 use Prim.Native.Nat.{suc, _≤_, _-_, min}
-use mathlib.Core.Path.{_≡_, refl, sym, _∙_, ap}
+use mathlib.Core.Path.{_≡_, sym, _∙_}
 use native.Mathlib.Omega.{arith}
 use native.Mathlib.Numerals.{add-one}
 use Rattle.bzimage.specs.SetupHeader.{placeOf, sizes}

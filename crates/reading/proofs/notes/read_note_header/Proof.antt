@@ -1,7 +1,7 @@
--- `reading::read_note_header`, a walk of its MIR: a reader is made in a local, and what each call of `take` gives back is taken apart, so that
+-- `notes::read_note_header`, a walk of its MIR: a reader is made in a local, and what each call of `take` gives back is taken apart, so that
 -- its rest goes to the next. Of `new` and `take` the proof knows their contracts alone. In a local of a body MIR erases the lifetime of
 -- a struct's type, so a value is shown to have the type at `erased`: what the struct owns does not say the lifetime's name.
-use mathlib.Core.Path.{_≡_, refl, ap, _∙_, subst⁻¹}
+use mathlib.Core.Path.{_≡_, refl, ap}
 use Prim.Native.Nat.{ℕ, _<_, _≤_, _^_}
 use mathlib.Core.List.{List, [], _∷_}
 use lib.ListN.{length}
@@ -25,7 +25,7 @@ use types.Run.{look, init, forget, stop, fld, from, load, of-opd, lit, assigns, 
 use sound.WpLaws.{FmC, fmOf, WpFn-mono}
 use denote.RattleType.{RattleType, owns}
 use denote.Laws.{Is, shows}
-use denote.Plain.{uint-vals, uint-tells, uint-lawful, uint-makes}
+use denote.Plain.{uint-makes}
 use denote.Builtin.{u8, u64}
 use denote.Ref.{RefT, NamedLft, now}
 use denote.Signature.{plain, namedLft}
@@ -38,7 +38,7 @@ use denote.Triple.Call.{calls-at}
 use denote.Triple.Entry.{Vals, onEntry}
 use denote.Triple.Spec.{Meets, tripleOf}
 use denote.Triple.Table.{entered, cited}
-use denote.Triple.Walked.{says, needs, Stays, stay-none-slice, stay-none, walkOf, goes-none-slice, goes-none, Walks, ends-at, walked, walk-meets}
+use denote.Triple.Walked.{says, Stays, stay-none-slice, stay-none, walkOf, goes-none-slice, goes-none, Walks, ends-at, walked, walk-meets}
 use denote.Exit.{yes}
 use denote.Triple.Clauses.{ensured, lasts}
 use Rattle.fields.specs.Ranges.{top64}
@@ -65,10 +65,10 @@ use Rattle.reading.proofs.take as take
 use Rattle.reading.proofs.take.Symbol as take-def
 use Rattle.reading.proofs.take.Symbol.{name as #reading·take}
 use Rattle.reading.proofs.take.Met as take-thm
-use Rattle.reading.proofs.read_note_header.Key.{name as #reading·read-note-header}
-use Rattle.reading.proofs.read_note_header as own
-use Rattle.reading.proofs.read_note_header.Statement as stated
-use Rattle.reading.proofs.read_note_header.Code as code
+use Rattle.reading.proofs.notes.read_note_header.Key.{name as #reading·notes·read-note-header}
+use Rattle.reading.proofs.notes.read_note_header as own
+use Rattle.reading.proofs.notes.read_note_header.Statement as stated
+use Rattle.reading.proofs.notes.read_note_header.Code as code
 
 -- the reader's type, over the signature's lifetimes
 abbrev B : Lfts 1 → RattleType
@@ -230,7 +230,7 @@ pub read-note-header-spec : {M : Type 1} → stated.statement M
 unfolding code.routine tablesOf
 read-note-header-spec 𝓤 H 𝓜 𝓖 𝓡 =
     entered 𝓤 H (tripleOf 𝓤 H (𝓖 .A) own.signature (own.spec 𝓤 H (𝓖 .A) (𝓜 .mem) (𝓡 .run)))
-    (tables 𝓤 H 𝓜 𝓡 code.env .C) (tables 𝓤 H 𝓜 𝓡 code.env .Λ) #reading·read-note-header code.function (code.unfolded 𝓤 H 𝓜 𝓡)
+    (tables 𝓤 H 𝓜 𝓡 code.env .C) (tables 𝓤 H 𝓜 𝓡 code.env .Λ) #reading·notes·read-note-header code.function (code.unfolded 𝓤 H 𝓜 𝓡)
     (read-note-header-meets 𝓤 H (𝓖 .A) (givenOf 𝓤 H 𝓜 𝓖) (𝓜 .mem) (𝓡 .run) (tablesOf 𝓤 H 𝓜 (tables 𝓤 H 𝓜 𝓡 code.env))
     (cited 𝓤 H (New 𝓤 H (𝓖 .A) (𝓜 .mem) (𝓡 .run)) 𝓜 𝓡 code.env #reading·new new-def.routine code.calls-reading·new (new-thm.met 𝓤 H 𝓜 𝓖 𝓡))
     (cited 𝓤 H (Take 𝓤 H (𝓖 .A) (𝓜 .mem) (𝓡 .run)) 𝓜 𝓡 code.env #reading·take take-def.routine code.calls-reading·take (take-thm.met 𝓤 H 𝓜 𝓖 𝓡)))

@@ -1,9 +1,9 @@
--- `reading::place_past`: the sum where it is a number of 64 bits, else the greatest such number.
+-- `places::place_past`: the sum where it is a number of 64 bits, else the greatest such number.
 use borrow.Author.Needs.{needs}
 use native.Mathlib.Omega.{arith}
 use Rattle.reading.proofs.PlacesLaws.{past-within, past-beyond}
-use Rattle.reading.proofs.place_past.Statement.{statement}
-use Rattle.reading.proofs.place_past.Tie as tie
+use Rattle.reading.proofs.places.place_past.Statement.{statement}
+use Rattle.reading.proofs.places.place_past.Tie as tie
 
 returns : tie.Need-returns
 returns c = let args = c .before .before .before .before .args in past-within (args .at) (args .width) (c .before .before .before .bytes-of .ensures) (omega arith) (c .before .if1 .taken)
