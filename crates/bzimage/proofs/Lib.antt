@@ -7,3 +7,4 @@ pub mod LongerGuest
 pub mod Refusals
 pub mod Returned
 pub mod Outcomes
+pub mod EmptyKernel
