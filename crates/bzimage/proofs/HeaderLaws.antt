@@ -9,7 +9,7 @@ use lib.ListN.{length, getD, set, drop, replicate, length-drop, drop-of-length-l
 use lib.Seq.{sets, take-all, getD-drop}
 use borrow.Rule.Slice.PartMut.{midOf}
 use Rattle.fields.proofs.CopyingLaws.{sets-out}
-use Rattle.bzimage.specs.SetupHeader.{placeOf}
+use Rattle.bzimage.specs.SetupHeader.{headerSize, placeOf}
 use Rattle.bzimage.specs.Header.{bytesFrom, bytesOf, headerOf}
 use Rattle.bzimage.proofs.SetupHeaderLaws.{at-setup-sects, at-code32-start}
 
@@ -62,7 +62,7 @@ read-over n p s {from} e =
 
 -- the whole header: first is where it begins, and q where code32_start does
 pub header-made : {first from q : ℕ} {h r : List ℕ} (s : List ℕ) (load : ℕ) → first ≡ placeOf 0 → from ≡ min first (length s)
-    → h ≡ sets (replicate 123 0) 0 (midOf from (length s - from) s) → q ≡ placeOf 16 → r ≡ sets h (q - first) (bytesOf 4 load) → r ≡ headerOf s load
+    → h ≡ sets (replicate headerSize 0) 0 (midOf from (length s - from) s) → q ≡ placeOf 16 → r ≡ sets h (q - first) (bytesOf 4 load) → r ≡ headerOf s load
 unfolding headerOf
 header-made {first} s load ep ef eh eq er =
-    er ∙ rw (eh ∙ read-over 123 first s ef, ep, eq, at-setup-sects, at-code32-start)
+    er ∙ rw (eh ∙ read-over headerSize first s ef, ep, eq, at-setup-sects, at-code32-start)

@@ -18,6 +18,7 @@ use Rattle.bzimage.specs.declared.KernelLoaderResult.{KernelLoaderResult
 use Rattle.bzimage.specs.declared.Outcome.{Outcome}
 use Rattle.bzimage.specs.Answers.{answerNumber, answerValues}
 use Rattle.bzimage.specs.Kernel.{kernelSize, loadOf}
+use Rattle.bzimage.specs.SetupHeader.{headerSize}
 use Rattle.bzimage.specs.Plan.{tests, gateOf, loadedAs, loadedAt, refusedAs, Loads}
 use Rattle.bzimage.proofs.PlanLaws.{plan-open, plan-shut}
 
@@ -78,7 +79,7 @@ module _ (image : List ℕ) (offset highmem : Given) (guest : List ℕ) {r : Out
 
   -- a test fails: the first that does answers, by its number, with no values and a header of zeros
   pub refused-where : {refusal : Refusal} → FirstFails refusal row
-      → (answerNumber (r .answer) ≡ numberOf refusal) × (answerValues (r .answer) ≡ []) × (r .«setup_header» ≡ replicate 123 0)
+      → (answerNumber (r .answer) ≡ numberOf refusal) × (answerValues (r .answer) ≡ []) × (r .«setup_header» ≡ replicate headerSize 0)
   unfolding answerNumber answerValues refusedAs
   refused-where {refusal} f =
       let refused = row-shut (first-shut row refusal f) in (

@@ -14,7 +14,7 @@ use Rattle.guest.proofs.StreamLaws.{length-pour, pour-at, last-decides, last-in
 use Rattle.bzimage.specs.declared.Answer.the-variants.{Loaded, Refused}
 use Rattle.bzimage.specs.declared.KernelLoaderResult.{KernelLoaderResult}
 use Rattle.bzimage.specs.declared.Outcome.{Outcome}
-use Rattle.bzimage.specs.SetupHeader.{headerStart, code32Start}
+use Rattle.bzimage.specs.SetupHeader.{headerSize, headerStart, code32Start}
 use Rattle.bzimage.specs.Header.{bytesFrom, bytesOf, headerRead, headerOf}
 use Rattle.bzimage.specs.Plan.{loadedAt, refusedAs, Loads}
 use Rattle.bzimage.proofs.PlanLaws.{loaded-outcome, refused-outcome}
@@ -24,8 +24,8 @@ abbrev pub startAt : ℕ
 startAt = code32Start - headerStart
 
 pub record Returned (image : List ℕ) (load : ℕ) (header : List ℕ) : Type 0 where
-  pub as-long : length header ≡ 123
-  pub as-read : (i : ℕ) → i < 123 → (startAt ≤ i → i < startAt + 4 → ⊥) → getD header i 0 ≡ getD image (headerStart + i) 0
+  pub as-long : length header ≡ headerSize
+  pub as-read : (i : ℕ) → i < headerSize → (startAt ≤ i → i < startAt + 4 → ⊥) → getD header i 0 ≡ getD image (headerStart + i) 0
   pub start : le 4 header startAt ≡ load % 2 ^ 32
 
 -- ---- the bytes as read
@@ -84,10 +84,10 @@ low-32 h b v is =
 pub header-returned : (image : List ℕ) (load : ℕ) → Returned image load (headerOf image load)
 unfolding headerOf
 header-returned image load =
-    let len = length-bytes 123 image headerStart in
+    let len = length-bytes headerSize image headerStart in
     record {
       as-long = ap length (put-is (headerRead image) startAt load) ∙ length-pour (streamAt startAt (bytesOf 4 load)) (headerRead image) ∙ len;
-      as-read = λ i h out. put-outside (headerRead image) startAt load i (omega arith) out ∙ byte-of 123 image headerStart i h;
+      as-read = λ i h out. put-outside (headerRead image) startAt load i (omega arith) out ∙ byte-of headerSize image headerStart i h;
       start = low-32 (headerOf image load) startAt load (λ j h. put-inside (headerRead image) startAt load j h (omega arith));
     }
 
@@ -101,7 +101,7 @@ module _ (image : List ℕ) (offset highmem : Given) (guest : List ℕ) {r : Out
       subst⁻¹ (Returned image (k .«kernel_load» .0)) (ap (λ (o : Outcome). o .«setup_header») (loads .outcome ∙ loaded))
       (header-returned image (k .«kernel_load» .0))
 
-  pub refused-header : {refusal : Refusal} → r .answer ≡ Refused refusal → r .«setup_header» ≡ replicate 123 0
+  pub refused-header : {refusal : Refusal} → r .answer ≡ Refused refusal → r .«setup_header» ≡ replicate headerSize 0
   unfolding refusedAs
   refused-header e =
       let refused = refused-outcome image (length guest) offset highmem (sym (ap (λ (o : Outcome). o .answer) (loads .outcome)) ∙ e) in

@@ -7,7 +7,7 @@ use native.Mathlib.Omega.{arith}
 use native.Mathlib.Decide.{decLe}
 use lib.ListN.{length, getD, take}
 use lib.Seq.{take-all}
-use Rattle.bzimage.specs.SetupHeader.{sizes, total, placeOf, headerStart, protocolPlaces, setupSects, headerMagic, version, loadflags, code32Start}
+use Rattle.bzimage.specs.SetupHeader.{headerSize, sizes, total, placeOf, headerStart, protocolPlaces, setupSects, headerMagic, version, loadflags, code32Start}
 
 -- ---- any table
 
@@ -41,7 +41,7 @@ total-grows (suc i) (suc k) (n ∷ ns) h = let rest = total-grows i k ns (omega 
 -- ---- this table
 
 -- the computed test, over the whole table and its end
-tested : placesFrom headerStart sizes ≡ protocolPlaces ++ ((headerStart + 123) ∷ [])
+tested : placesFrom headerStart sizes ≡ protocolPlaces ++ ((headerStart + headerSize) ∷ [])
 unfolding placesFrom sizes protocolPlaces
 tested = refl
 
@@ -50,7 +50,7 @@ unfolding sizes
 many = refl
 
 -- every field stands where the protocol puts it; number 39 is the header's end
-pub placed : (field : ℕ) → field ≤ 39 → placeOf field ≡ getD (protocolPlaces ++ ((headerStart + 123) ∷ [])) field 0
+pub placed : (field : ℕ) → field ≤ 39 → placeOf field ≡ getD (protocolPlaces ++ ((headerStart + headerSize) ∷ [])) field 0
 unfolding placeOf
 placed field h =
     sym (place-sums field headerStart sizes (let m = many in omega arith)) ∙ ap (λ (l : List ℕ). getD l field 0) tested
@@ -99,7 +99,7 @@ place-clipped field {k} e = split (decLe field 39)
         ap (λ (l : List ℕ). headerStart + total l) (take-all k sizes (omega arith) ∙ sym (take-all field sizes (omega arith)))
 
 -- no sum passes the header's end
-pub place-small : (field : ℕ) → field ≤ 39 → placeOf field ≤ headerStart + 123
+pub place-small : (field : ℕ) → field ≤ 39 → placeOf field ≤ headerStart + headerSize
 unfolding placeOf
 place-small field h =
     let m = many in

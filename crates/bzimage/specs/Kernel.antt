@@ -28,6 +28,7 @@ setupSize image = (sectorsOf image + 1) * 512
 unfoldable pub kernelOf : List ℕ → List ℕ
 kernelOf image = drop (setupSize image) image
 
+-- its size: what the image has after the setup, and 0 where it ends before
 unfoldable pub kernelSize : List ℕ → ℕ
 kernelSize image = length image - setupSize image
 

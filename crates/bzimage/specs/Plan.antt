@@ -23,7 +23,7 @@ use Rattle.bzimage.specs.declared.Answer.{Answer}
 use Rattle.bzimage.specs.declared.Answer.the-variants.{Loaded, Refused}
 use Rattle.bzimage.specs.declared.KernelLoaderResult.{KernelLoaderResult}
 use Rattle.bzimage.specs.declared.Outcome.{Outcome}
-use Rattle.bzimage.specs.SetupHeader.{headerMagic, version, loadflags}
+use Rattle.bzimage.specs.SetupHeader.{headerSize, headerMagic, version, loadflags}
 use Rattle.bzimage.specs.Header.{headerOf}
 use Rattle.bzimage.specs.Kernel.{setupSize, kernelSize, kernelOf, startOf, loadOf}
 
@@ -46,20 +46,23 @@ tests image size offset highmem =
     ∷ (roomFor size (loadOf image offset .0) (kernelSize image), ReadBzImageCompressedKernel)
     ∷ []
 
+-- how they end: open, or shut by the first that fails
 unfoldable pub gateOf : List ℕ → ℕ → Given → Given → Gate
 gateOf image size offset highmem = askedAll Open (tests image size offset highmem)
 
--- a kernel loaded at an address: it ends its size after it
+-- a kernel loaded at an address ends its size after it
 abbrev pub loadedAs : List ℕ → GuestAddress → KernelLoaderResult
 loadedAs image load = record { «kernel_load» = load; «kernel_end» = record { 0 = load .0 + kernelSize image } }
 
+-- what is answered then: the kernel, and the header with its address
 unfoldable pub loadedAt : List ℕ → GuestAddress → Outcome
 loadedAt image load = record { answer = Loaded (loadedAs image load); «setup_header» = headerOf image (load .0) }
 
--- a refusal: the header beside it is all zero
+-- what is answered by a refusal: beside it the header is all zero
 unfoldable pub refusedAs : Refusal → Outcome
-refusedAs refusal = record { answer = Refused refusal; «setup_header» = replicate 123 0 }
+refusedAs refusal = record { answer = Refused refusal; «setup_header» = replicate headerSize 0 }
 
+-- the answer by how the tests end
 abbrev pub afterGate : Gate → Outcome → Outcome
 afterGate Open outcome = outcome
 afterGate (Shut refusal) outcome = refusedAs refusal

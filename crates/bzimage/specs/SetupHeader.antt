@@ -13,9 +13,12 @@ unfoldable pub total : List ℕ → ℕ
 total [] = 0
 total (n ∷ ns) = n + total ns
 
--- where the header begins in the image
+-- where the header begins in the image, and how long it is
 abbrev pub headerStart : ℕ
 headerStart = 0x1F1
+
+abbrev pub headerSize : ℕ
+headerSize = 123
 
 -- where the field of this number begins in the image: the sizes before it, summed
 unfoldable pub placeOf : ℕ → ℕ
@@ -26,7 +29,7 @@ unfoldable pub protocolPlaces : List ℕ
 protocolPlaces =
     0x1F1 ∷ 0x1F2 ∷ 0x1F4 ∷ 0x1F8 ∷ 0x1FA ∷ 0x1FC ∷ 0x1FE ∷ 0x200 ∷ 0x202 ∷ 0x206 ∷ 0x208 ∷ 0x20C ∷ 0x20E ∷ 0x210 ∷ 0x211 ∷ 0x212 ∷ 0x214 ∷ 0x218 ∷ 0x21C ∷ 0x220 ∷ 0x224 ∷ 0x226 ∷ 0x227 ∷ 0x228 ∷ 0x22C ∷ 0x230 ∷ 0x234 ∷ 0x235 ∷ 0x236 ∷ 0x238 ∷ 0x23C ∷ 0x240 ∷ 0x248 ∷ 0x24C ∷ 0x250 ∷ 0x258 ∷ 0x260 ∷ 0x264 ∷ 0x268 ∷ []
 
--- the fields that a load uses, by the protocol's places
+-- the protocol's places of the fields that a load uses
 abbrev pub setupSects : ℕ
 setupSects = 0x1F1
 
