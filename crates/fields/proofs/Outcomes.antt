@@ -6,6 +6,10 @@ use Rattle.fields.proofs.numbers.wide.Kinds as wide-kinds
 use Rattle.fields.proofs.numbers.wide.Reads as wide-reads
 use Rattle.fields.proofs.numbers.byte_at.Kinds as byte-at-kinds
 use Rattle.fields.proofs.numbers.byte_at.Reads as byte-at-reads
+use Rattle.fields.proofs.numbers.bytes_of.Kinds as bytes-of-kinds
+use Rattle.fields.proofs.numbers.bytes_of.Reads as bytes-of-reads
+use Rattle.fields.proofs.numbers.read_le.Kinds as read-le-kinds
+use Rattle.fields.proofs.numbers.read_le.Reads as read-le-reads
 use Rattle.fields.proofs.numbers.read_u16.Kinds as read-u16-kinds
 use Rattle.fields.proofs.numbers.read_u16.Reads as read-u16-reads
 use Rattle.fields.proofs.numbers.read_u32.Kinds as read-u32-kinds
@@ -30,6 +34,12 @@ wide-one κs a z z' ws ws' p q = (meet p q, refl)
 
 pub byte-at-one : OneOutcome 1 byte-at-kinds.ps byte-at-kinds.r byte-at-reads.Post
 byte-at-one κs a z z' ws ws' p q = (meet (p .value) (q .value), refl)
+
+pub bytes-of-one : OneOutcome 0 bytes-of-kinds.ps bytes-of-kinds.r bytes-of-reads.Post
+bytes-of-one κs a z z' ws ws' p q = (meet p q, refl)
+
+pub read-le-one : OneOutcome 1 read-le-kinds.ps read-le-kinds.r read-le-reads.Post
+read-le-one κs a z z' ws ws' p q = (meet (p .value) (q .value), refl)
 
 pub read-u16-one : OneOutcome 1 read-u16-kinds.ps read-u16-kinds.r read-u16-reads.Post
 read-u16-one κs a z z' ws ws' p q = (meet (p .value) (q .value), refl)

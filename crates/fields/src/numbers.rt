@@ -1,6 +1,6 @@
 // Little-endian numbers at a place of a slice. A byte past the end counts as 0.
 ghost use mathlib.Core.Path.{_≡_};
-ghost use Prim.Native.Nat.{_+_, _<_, _≤_};
+ghost use Prim.Native.Nat.{_+_, min};
 ghost use Rattle.fields.specs.Numbers.{ReadAs};
 
 // A byte as a wide number.
@@ -25,16 +25,23 @@ pub fn byte_at(s: &[u8], at: u64, i: u64) -> u64
     wide(s[k])
 }
 
-// The number of `width` bytes at a place, the last byte first: every reader below is this one.
-fn read_le(s: &[u8], at: u64, width: u64) -> u64
-    requires { ⌜ width ≤ 8 ⌝ }
-    ensures { λ r. ⌜ ReadAs width (now (s .entry)) at r ⌝ }
+// How many bytes a number of this width has: a width above 8 counts as 8.
+pub fn bytes_of(width: u64) -> u64
+    ensures { λ r. ⌜ r ≡ min width 8 ⌝ }
 {
+    if width < 8 { width } else { 8 }
+}
+
+// The number of `width` bytes at a place, the last byte first: every reader below is this one.
+pub fn read_le(s: &[u8], at: u64, width: u64) -> u64
+    ensures { λ r. ⌜ ReadAs (min width 8) (now (s .entry)) at r ⌝ }
+{
+    let n = bytes_of(width);
     let mut v: u64 = 0;
     let mut i: u64 = 0;
-    while i < width {
+    while i < n {
         i += 1;
-        v = v * 256 + byte_at(s, at, width - i);
+        v = v * 256 + byte_at(s, at, n - i);
     }
     v
 }

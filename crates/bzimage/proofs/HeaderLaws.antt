@@ -1,0 +1,68 @@
+-- Laws of the setup header as it is read and returned.
+use Prim.Native.Nat.{ℕ, zero, suc, _+_, _-_, _≤_, min}
+use mathlib.Core.Path.{_≡_, refl, sym, _∙_, ap}
+use mathlib.Core.List.{List, [], _∷_}
+use native.Mathlib.Omega.{arith}
+use native.Mathlib.Decide.{decLe}
+use native.Mathlib.Nat.{add-zero, add-suc}
+use lib.ListN.{length, getD, set, drop, replicate, length-drop, drop-of-length-le}
+use lib.Seq.{sets, take-all, getD-drop}
+use borrow.Rule.Slice.PartMut.{midOf}
+use Rattle.fields.proofs.CopyingLaws.{sets-out}
+use Rattle.bzimage.specs.SetupHeader.{headerSize, placeOf}
+use Rattle.bzimage.specs.Header.{bytesFrom, bytesOf, headerOf}
+use Rattle.bzimage.proofs.SetupHeaderLaws.{at-setup-sects, at-code32-start}
+
+-- ---- zeros, of which the front is stored over
+
+sets-behind : (vs l : List ℕ) (x i : ℕ) → sets (x ∷ l) (suc i) vs ≡ x ∷ sets l i vs
+sets-behind [] l x i = refl
+sets-behind (v ∷ vs) l x i = sets-behind vs (set l i v) x (suc i)
+
+bytes-behind : (n : ℕ) (vs : List ℕ) (v p : ℕ) → bytesFrom n (v ∷ vs) (suc p) ≡ bytesFrom n vs p
+unfolding bytesFrom
+bytes-behind zero vs v p = refl
+bytes-behind (suc n) vs v p = ap (λ (l : List ℕ). getD vs p 0 ∷ l) (bytes-behind n vs v (suc p))
+
+bytes-none : (n p : ℕ) → replicate n 0 ≡ bytesFrom n [] p
+unfolding bytesFrom
+bytes-none zero p = refl
+bytes-none (suc n) p = ap (λ (l : List ℕ). 0 ∷ l) (bytes-none n (suc p))
+
+over-zeros : (n : ℕ) (vs : List ℕ) → sets (replicate n 0) 0 vs ≡ bytesFrom n vs 0
+unfolding bytesFrom
+over-zeros zero vs = sets-out vs [] 0 (omega arith)
+over-zeros (suc n) [] = bytes-none (suc n) 0
+over-zeros (suc n) (v ∷ vs) =
+    sets-behind vs (replicate n 0) v 0 ∙ ap (λ (l : List ℕ). v ∷ l) (over-zeros n vs ∙ sym (bytes-behind n vs v 0))
+
+-- ---- the bytes from a place on
+
+bytes-drop : (n : ℕ) (s : List ℕ) (p q : ℕ) → bytesFrom n (drop p s) q ≡ bytesFrom n s (p + q)
+unfolding bytesFrom
+bytes-drop zero s p q = refl
+bytes-drop (suc n) s p q =
+    rw (getD-drop p s q 0) (ap (λ (l : List ℕ). getD s (p + q) 0 ∷ l) (bytes-drop n s p (suc q) ∙ ap (bytesFrom n s) (add-suc p q)))
+
+drop-clipped : (p : ℕ) (s : List ℕ) {from : ℕ} → from ≡ min p (length s) → drop from s ≡ drop p s
+drop-clipped p s {from} e = split (decLe p (length s))
+  where
+    split : Dec (p ≤ length s) → drop from s ≡ drop p s
+    split (yes h) = ap (λ (k : ℕ). drop k s) (let same : from ≡ p = omega arith in same)
+    split (no h) = drop-of-length-le s {i = from} (omega arith) ∙ sym (drop-of-length-le s {i = p} (omega arith))
+
+-- zeros, with what the image has from a place on copied over them
+pub read-over : (n p : ℕ) (s : List ℕ) {from : ℕ} → from ≡ min p (length s)
+    → sets (replicate n 0) 0 (midOf from (length s - from) s) ≡ bytesFrom n s p
+read-over n p s {from} e =
+    over-zeros n (midOf from (length s - from) s)
+    ∙ ap (λ (l : List ℕ). bytesFrom n l 0) (take-all (length s - from) (drop from s) (simp length-drop (omega arith)) ∙ drop-clipped p s e)
+    ∙ bytes-drop n s p 0
+    ∙ ap (bytesFrom n s) (add-zero p)
+
+-- the whole header: first is where it begins, and q where code32_start does
+pub header-made : {first from q : ℕ} {h r : List ℕ} (s : List ℕ) (load : ℕ) → first ≡ placeOf 0 → from ≡ min first (length s)
+    → h ≡ sets (replicate headerSize 0) 0 (midOf from (length s - from) s) → q ≡ placeOf 16 → r ≡ sets h (q - first) (bytesOf 4 load) → r ≡ headerOf s load
+unfolding headerOf
+header-made {first} s load ep ef eh eq er =
+    er ∙ rw (eh ∙ read-over headerSize first s ef, ep, eq, at-setup-sects, at-code32-start)

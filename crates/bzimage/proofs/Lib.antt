@@ -1,0 +1,10 @@
+pub mod SetupHeaderLaws
+pub mod HeaderLaws
+pub mod KernelLaws
+pub mod PlanLaws
+pub mod Copied
+pub mod LongerGuest
+pub mod Refusals
+pub mod Returned
+pub mod Outcomes
+pub mod EmptyKernel

@@ -1,0 +1,38 @@
+-- `header::header_with`: zeros, the image copied over them from the header's start on, and the address in its field.
+use borrow.Author.Needs.{needs}
+use mathlib.Core.Path.{_∙_}
+use native.Mathlib.Omega.{arith}
+use Rattle.bzimage.proofs.SetupHeaderLaws.{at-setup-sects, at-code32-start}
+use Rattle.bzimage.proofs.HeaderLaws.{header-made}
+use Rattle.bzimage.proofs.header.header_with.Statement.{statement}
+use Rattle.bzimage.proofs.header.header_with.Tie as tie
+
+sub-at : tie.Need-sub-at
+sub-at c = omega (arith, c .place2 .ensures ∙ at-code32-start, c .before .before .before .before .before .before .place .ensures ∙ at-setup-sects)
+
+put-u32-requires : tie.Need-put-u32-requires
+put-u32-requires c κs =
+    omega (arith, c .before .place2 .ensures ∙ at-code32-start, c .before .before .before .before .before .before .before .place .ensures ∙ at-setup-sects, c .before .before .before .copy .kept .0)
+
+returns : tie.Need-returns
+returns c =
+    let args = c .before .before .before .before .before .before .before .before .before .before .before .args in
+    header-made (args .image .now) (args .load .0) (c .before .before .before .before .before .before .before .before .before .place .ensures) (c .before .before .before .before .before .before .before .before .lesser .ensures) (c .before .before .before .before .before .copy .ensures) (c .before .before .before .place2 .ensures)
+    (c .before .put-u32 .ensures)
+
+pub header-with-spec : {M : Type 1} → statement M
+header-with-spec =
+    tie.close
+    (tie.spec
+    (λ c κs. search needs)
+    (λ c κs. search needs)
+    (λ c. search needs)
+    (λ c. search needs)
+    (λ c. search needs)
+    (λ c. search needs)
+    (λ c κs. search needs)
+    (λ c κs. search needs)
+    sub-at
+    (λ c. search needs)
+    put-u32-requires
+    returns)

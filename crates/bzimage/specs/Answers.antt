@@ -1,0 +1,16 @@
+-- An answer by the catalogue's number and its values.
+use Prim.Native.Nat.{ℕ}
+use mathlib.Core.List.{List, [], _∷_}
+use Rattle.answers.specs.Catalogue.{numberOf}
+use Rattle.bzimage.specs.declared.Answer.{Answer}
+use Rattle.bzimage.specs.declared.Answer.the-variants.{Loaded, Refused}
+
+-- the number of an answer: the refusal's, and 0 where the kernel is loaded
+unfoldable pub answerNumber : Answer → ℕ
+answerNumber (Loaded k) = 0
+answerNumber (Refused refusal) = numberOf refusal
+
+-- the values beside it: the load address and the kernel's end; a refusal has none
+unfoldable pub answerValues : Answer → List ℕ
+answerValues (Loaded k) = k .«kernel_load» .0 ∷ k .«kernel_end» .0 ∷ []
+answerValues (Refused refusal) = []

@@ -1,0 +1,55 @@
+// Copyright (c) 2019 Intel Corporation. All rights reserved.
+// Copyright 2018 Amazon.com, Inc. or its affiliates. All Rights Reserved.
+//
+// Copyright 2017 The Chromium OS Authors. All rights reserved.
+// Use of this source code is governed by a BSD-style license that can be
+// found in the LICENSE-BSD-3-Clause file.
+//
+// SPDX-License-Identifier: Apache-2.0 AND BSD-3-Clause
+
+// Big zImage (bzImage) kernels. A load is a plan, made of the image, the size of guest memory and the options alone, and its pouring.
+ghost use Rattle.bzimage.specs.Plan.{Loads};
+use answers::Refusal;
+use guest::Given;
+use guest::GuestAddress;
+use guest::ImagePlace;
+use guest::copying;
+
+mod header;
+mod kernel;
+mod plan;
+pub mod setup_header;
+
+// A kernel that is loaded: where it begins in guest memory, and where it ends.
+pub struct KernelLoaderResult {
+    pub kernel_load: GuestAddress,
+    pub kernel_end: GuestAddress,
+}
+
+pub enum Answer {
+    Loaded(KernelLoaderResult),
+    Refused(Refusal),
+}
+
+// The answer, and the setup header for the boot page. Beside a refusal the header is all zero.
+pub struct Outcome {
+    pub answer: Answer,
+    pub setup_header: [u8; 123],
+}
+
+// Loads a kernel from a bzImage to guest memory: at the offset if one is given, else at `code32_start` of the setup header.
+pub fn load(guest: &mut [u8], kernel_offset: Given, image: &[u8], highmem_start: Given) -> Outcome
+    ensures { λ r. ⌜ Loads (now (image .entry)) «kernel_offset» «highmem_start» (now (guest .entry)) r (now (guest .exit)) ⌝ }
+{
+    let outcome = plan::plan_load(image, guest.len() as u64, kernel_offset, highmem_start);
+    let answer = outcome.answer;
+    match answer {
+        Answer::Loaded(loaded) => {
+            let setup = kernel::setup_size(image);
+            let size = kernel::kernel_size(image);
+            copying::copy_image(guest, loaded.kernel_load, image, ImagePlace(setup), size);
+            outcome
+        }
+        Answer::Refused(_) => outcome,
+    }
+}

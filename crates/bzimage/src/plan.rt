@@ -1,0 +1,86 @@
+// The plan of a load: the tests in their order, and the answer.
+ghost use mathlib.Core.Path.{_≡_};
+ghost use Rattle.bzimage.specs.Plan.{roomFor, gateOf, refusedAs, planOf};
+use crate::Answer;
+use crate::KernelLoaderResult;
+use crate::Outcome;
+use crate::header;
+use crate::kernel;
+use crate::setup_header;
+use answers::Gate;
+use answers::Refusal;
+use fields::numbers;
+use guest::Given;
+use guest::GuestAddress;
+use guest::addresses;
+use guest::room;
+use guest::sizes;
+
+// Is there room for n bytes at an address? For none there always is.
+fn room_for(size: u64, address: GuestAddress, n: u64) -> bool
+    ensures { λ r. ⌜ r ≡ roomFor size (address .0) n ⌝ }
+{
+    if n == 0 {
+        return true;
+    }
+    room::has_room(size, address, n)
+}
+
+// The tests. Every reading is total, so no test guards another.
+fn validate(image: &[u8], size: u64, offset: Given, highmem: Given) -> Gate
+    ensures { λ r. ⌜ r ≡ gateOf (now (image .entry)) size offset highmem ⌝ }
+{
+    let len = image.len() as u64;
+    let magic = numbers::read_u32(image, setup_header::place(setup_header::HEADER));
+    let version = numbers::read_u16(image, setup_header::place(setup_header::VERSION));
+    let flags = numbers::byte_at(image, setup_header::place(setup_header::LOADFLAGS), 0);
+    let setup = kernel::setup_size(image);
+    let start = kernel::code32_start(image);
+    let load = addresses::given_or(offset, start);
+    let room = room_for(size, load, kernel::kernel_size(image));
+    let gate = answers::require(Gate::Open, sizes::is_allowed(len), Refusal::SliceTooLong);
+    let gate = answers::require(gate, sizes::is_allowed(size), Refusal::SliceTooLong);
+    let gate = answers::require(gate, magic == 0x5372_6448, Refusal::InvalidBzImage);
+    let gate = answers::require(gate, 0x200 <= version, Refusal::InvalidBzImage);
+    let gate = answers::require(gate, flags % 2 == 1, Refusal::InvalidBzImage);
+    let gate = answers::require(gate, setup <= len, Refusal::Underflow);
+    let gate = answers::require(
+        gate,
+        addresses::amount(highmem) <= start.0,
+        Refusal::InvalidKernelStartAddress,
+    );
+    answers::require(gate, room, Refusal::ReadBzImageCompressedKernel)
+}
+
+fn refused(refusal: Refusal) -> Outcome
+    ensures { λ r. ⌜ r ≡ refusedAs refusal ⌝ }
+{
+    Outcome {
+        answer: Answer::Refused(refusal),
+        setup_header: [0; 123],
+    }
+}
+
+// What a load into guest memory of this size answers.
+pub fn plan_load(image: &[u8], size: u64, offset: Given, highmem: Given) -> Outcome
+    ensures { λ r. ⌜ r ≡ planOf (now (image .entry)) size offset highmem ⌝ }
+{
+    let gate = validate(image, size, offset, highmem);
+    match gate {
+        Gate::Shut(refusal) => refused(refusal),
+        Gate::Open => {
+            let load = addresses::given_or(offset, kernel::code32_start(image));
+            let bytes = kernel::kernel_size(image);
+            let end = load.0 + bytes;
+            let header = header::header_with(image, load);
+            let loaded = KernelLoaderResult {
+                kernel_load: load,
+                kernel_end: GuestAddress(end),
+            };
+            Outcome {
+                answer: Answer::Loaded(loaded),
+                setup_header: header,
+            }
+        }
+    }
+}

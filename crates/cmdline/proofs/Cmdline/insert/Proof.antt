@@ -1,0 +1,55 @@
+-- `Cmdline::insert`: where the key and the value pass their tests, trimming leaves the slug as it is, and only room is left to ask.
+use mathlib.Core.List.{_++_, _∷_}
+use mathlib.Core.Path.{_∙_, _≡_, ap, sym}
+use native.Mathlib.Omega.{arith}
+use lib.ListN.{length, length-append}
+use borrow.Author.Needs.{needs}
+use Rattle.answers.specs.Tests.{askedAll}
+use Rattle.answers.specs.declared.Gate.the-variants.{Open}
+use Rattle.cmdline.specs.Bytes.{equals}
+use Rattle.cmdline.specs.Insertion.{insert, pair}
+use Rattle.cmdline.specs.Keys.{keyTests}
+use Rattle.cmdline.specs.Limit.{limit}
+use Rattle.cmdline.specs.Values.{valueTests}
+use Rattle.cmdline.proofs.HeldLaws.{slug-reply}
+use Rattle.cmdline.proofs.PlanLaws.{all-append}
+use Rattle.cmdline.proofs.ValuesLaws.{pair-told}
+use Rattle.cmdline.proofs.Cmdline.insert.Statement.{statement}
+use Rattle.cmdline.proofs.Cmdline.insert.Tie as tie
+
+put-pair-requires : tie.Need-put-pair-requires
+put-pair-requires c κs =
+    let args = c .before .before .before .before .before .before .before .before .before .before .before .before .args in
+    let long : length (args .self .boot) ≡ limit = search needs in
+    omega (arith, c .lesser .ensures)
+
+returns : tie.Need-returns
+unfolding insert
+returns c =
+    let args = c .before .before .before .before .before .before .before .before .before .before .before .before .before .before .before .before .args in
+    let good = c .before .before .before .before .before .before .before .before .before .before .before .before .before .before .before .before .good .0 in
+    let key = args .key .now in
+    let value = args .value .now in
+    let count = c .before .before .before .before .before .before .before .before .before .before .sum2 .ensures in
+    let first = c .before .before .before .before .before .before .before .before .before .before .before .sum .ensures in
+    slug-reply (args .self) (search needs) (search needs) (keyTests key ++ valueTests value) (pair key value) (pair-told key value)
+    (c .before .before .before .before .before .before .before .before .before .before .before .before .ask2 .ensures ∙ ap (λ g. askedAll g (valueTests value)) (c .before .before .before .before .before .before .before .before .before .before .before .before .before .ask .ensures) ∙ sym (all-append Open (keyTests key) (valueTests value)))
+    (λ hold. let long = length-append key (equals ∷ value) in omega arith)
+    (c .before .before .before .before .before .before .before .before .before .boot-room .ensures) (c .before .before .before .before .before .before .before .before .require .ensures) (c .before .before .before .before .lesser .ensures) (c .before .before .before .put-pair .ensures) (c .before .clamped .ensures) (c .settled .ensures)
+
+pub insert-spec : {M : Type 1} → statement M
+insert-spec =
+    tie.close
+    (tie.spec
+    (λ c κs. search needs)
+    (λ c κs. search needs)
+    (λ c κs. search needs)
+    (λ c κs. search needs)
+    (λ c κs. search needs)
+    (λ c κs. search needs)
+    (λ c. search needs)
+    (λ c κs. search needs)
+    put-pair-requires
+    (λ c κs. search needs)
+    (λ c κs. search needs)
+    returns)

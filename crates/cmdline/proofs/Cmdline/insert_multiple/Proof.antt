@@ -1,0 +1,63 @@
+-- `Cmdline::insert_multiple`: as `insert`, with the tests of the list and of each value before the slug.
+use mathlib.Core.List.{_++_, _∷_, List}
+use mathlib.Core.Path.{_∙_, _≡_, sym}
+use native.Mathlib.Omega.{arith}
+use lib.Dec.{ltb}
+use lib.ListN.{length}
+use borrow.Author.Needs.{needs}
+use Rattle.answers.specs.Tests.{Test, asked}
+use Rattle.answers.specs.declared.Gate.the-variants.{Open}
+use Rattle.answers.specs.declared.Refusal.the-variants.{BadList, MissingVal}
+use Rattle.cmdline.specs.Bytes.{equals}
+use Rattle.cmdline.specs.Keys.{keyTests}
+use Rattle.cmdline.specs.Limit.{limit}
+use Rattle.cmdline.specs.Lists.{goodList, insertMultiple, listPre, listTests, listed}
+use Rattle.cmdline.proofs.HeldLaws.{slug-reply}
+use Rattle.cmdline.proofs.ListsLaws.{list-long, list-told}
+use Rattle.cmdline.proofs.PlanLaws.{all-append}
+use Rattle.cmdline.proofs.Cmdline.insert_multiple.Statement.{statement}
+use Rattle.cmdline.proofs.Cmdline.insert_multiple.Tie as tie
+
+put-list-requires : tie.Need-put-list-requires
+put-list-requires c κs =
+    let args = c .before .before .before .before .before .before .before .before .before .before .before .before .before .before .before .before .args in
+    let good = c .before .before .before .before .before .before .before .before .before .before .before .before .before .before .before .before .good .0 in
+    let long : length (args .self .boot) ≡ limit = search needs in
+    omega (arith, c .lesser .ensures)
+
+returns : tie.Need-returns
+unfolding insertMultiple
+returns c =
+    let args = c .before .before .before .before .before .before .before .before .before .before .before .before .before .before .before .before .before .before .before .before .args in
+    let good = c .before .before .before .before .before .before .before .before .before .before .before .before .before .before .before .before .before .before .before .before .good .0 in
+    let key = args .key .now in
+    let values = args .values .now in
+    let ends = args .ends .now in
+    let count = c .before .before .before .before .before .before .before .before .before .before .sum2 .ensures in
+    let first = c .before .before .before .before .before .before .before .before .before .before .before .sum .ensures in
+    let rest : List Test = (ltb 0 (length ends), MissingVal) ∷ listTests 0 ends values in
+    let gate = all-append (asked Open (goodList ends (length values)) BadList) (keyTests key) rest in
+    slug-reply (args .self) (search needs) (search needs) (listPre key values ends) (key ++ listed equals 0 ends values) (list-told key values ends)
+    (c .before .before .before .before .before .before .before .before .before .before .before .before .ask2 .ensures ∙ rw (c .before .before .before .before .before .before .before .before .before .before .before .before .before .require2 .ensures, c .before .before .before .before .before .before .before .before .before .before .before .before .before .before .ask .ensures, c .before .before .before .before .before .before .before .before .before .before .before .before .before .before .before .require .ensures, c .before .before .before .before .before .before .before .before .before .before .before .before .before .before .before .before .is-list .ensures) (sym gate))
+    (λ hold. let long = list-long key values ends hold in omega arith)
+    (c .before .before .before .before .before .before .before .before .before .boot-room .ensures) (c .before .before .before .before .before .before .before .before .require3 .ensures) (c .before .before .before .before .lesser .ensures) (c .before .before .before .put-list .ensures) (c .before .clamped .ensures) (c .settled .ensures)
+
+pub insert-multiple-spec : {M : Type 1} → statement M
+insert-multiple-spec =
+    tie.close
+    (tie.spec
+    (λ c κs. search needs)
+    (λ c κs. search needs)
+    (λ c κs. search needs)
+    (λ c κs. search needs)
+    (λ c κs. search needs)
+    (λ c κs. search needs)
+    (λ c κs. search needs)
+    (λ c κs. search needs)
+    (λ c κs. search needs)
+    (λ c. search needs)
+    (λ c κs. search needs)
+    put-list-requires
+    (λ c κs. search needs)
+    (λ c κs. search needs)
+    returns)

@@ -1,0 +1,72 @@
+-- Laws of the text of a device: its parts in turn, and how long they are.
+use Prim.Native.Nat.{ℕ, _+_, _*_, _/_, _%_, _^_, _≤_, _<_}
+use mathlib.Core.Path.{_≡_, refl, sym, ap, _∙_}
+use mathlib.Core.Bool.{Bool, true, false}
+use mathlib.Core.List.{List, [], _∷_, _++_, append-assoc, append-nil}
+use native.Mathlib.Omega.{arith}
+use lib.Dec.{eqb}
+use lib.ListN.{length, length-append}
+use borrow.Author.Tests.{eq-eqb, ne-eqb}
+use Rattle.answers.specs.Pick.{pick}
+use Rattle.answers.specs.Tests.{asked, askedAll}
+use Rattle.answers.specs.declared.Refusal.the-variants as refusal
+use Rattle.answers.specs.declared.Gate.{Gate}
+use Rattle.answers.specs.declared.Gate.the-variants.{Shut}
+use Rattle.answers.proofs.TestsLaws.{shut-stays}
+use Rattle.cmdline.specs.declared.Cmdline.{Cmdline}
+use Rattle.cmdline.specs.declared.Reply.{Reply}
+use Rattle.cmdline.specs.declared.DeviceId.{DeviceId}
+use Rattle.cmdline.specs.declared.DeviceId.the-variants.{Nothing, Number}
+use Rattle.cmdline.specs.Bytes.{colon}
+use Rattle.cmdline.specs.Digits.{decimal, hexadecimal}
+use Rattle.cmdline.specs.Insertion.{insertStr}
+use Rattle.cmdline.specs.Device.{sizeText, idText, prefix, at-hex, frontText, deviceText, addDevice}
+use Rattle.cmdline.specs.Held.{textOf, holding, settledReply, replyOf}
+use Rattle.cmdline.specs.Stored.{Stored}
+use Rattle.cmdline.proofs.DeviceFits.{decimal-few}
+
+-- ---- a size
+
+module _ (n : ℕ) where
+  pub size-G : n % 0x40000000 ≡ 0 → sizeText n ≡ decimal (n / 0x40000000) ++ (71 ∷ [])
+  unfolding sizeText pick
+  size-G e = rw (eq-eqb (n % 0x40000000) 0 e)
+
+  pub size-M : (n % 0x40000000 ≡ 0 → ⊥) → n % 0x100000 ≡ 0 → sizeText n ≡ decimal (n / 0x100000) ++ (77 ∷ [])
+  unfolding sizeText pick
+  size-M z e = rw (ne-eqb (n % 0x40000000) 0 z, eq-eqb (n % 0x100000) 0 e)
+
+  pub size-K : (n % 0x40000000 ≡ 0 → ⊥) → (n % 0x100000 ≡ 0 → ⊥) → n % 0x400 ≡ 0 → sizeText n ≡ decimal (n / 0x400) ++ (75 ∷ [])
+  unfolding sizeText pick
+  size-K z y e = rw (ne-eqb (n % 0x40000000) 0 z, ne-eqb (n % 0x100000) 0 y, eq-eqb (n % 0x400) 0 e)
+
+  pub size-plain : (n % 0x40000000 ≡ 0 → ⊥) → (n % 0x100000 ≡ 0 → ⊥) → (n % 0x400 ≡ 0 → ⊥) → sizeText n ≡ decimal n
+  unfolding sizeText pick
+  size-plain z y x = rw (ne-eqb (n % 0x40000000) 0 z, ne-eqb (n % 0x100000) 0 y, ne-eqb (n % 0x400) 0 x)
+
+-- ---- the parts of the text, put one after the other
+
+pub front-parts : (n b i : ℕ) → ((((prefix ++ sizeText n) ++ at-hex) ++ hexadecimal b) ++ (colon ∷ [])) ++ decimal i ≡ frontText n b i
+unfolding frontText
+front-parts n b i = simp append-assoc
+
+pub id-none : {d : List ℕ} {at : ℕ} (id : DeviceId) → id ≡ Nothing → at ≤ length d → (Stored d at (idText id) d at) × (length (idText id) ≤ 11)
+unfolding idText
+id-none id e h = rw e (record { bytes = refl; place = omega arith }, omega arith)
+
+pub id-number : {d left : List ℕ} {at r : ℕ} (id : DeviceId) (x : ℕ) → id ≡ Number x → x < 2 ^ 32 → Stored d at ((colon ∷ []) ++ decimal x) left r
+    → (Stored d at (idText id) left r) × (length (idText id) ≤ 11)
+unfolding idText
+id-number id x e h w = rw e (w, let few = decimal-few x h in omega arith)
+
+-- ---- asked
+
+module _ (l : Cmdline) (n b i : ℕ) (id : DeviceId) where
+  pub device-zero : {r : Reply} → n ≡ 0 → r ≡ settledReply (Shut refusal.MmioSize) l l → r ≡ replyOf l (addDevice (textOf l) n b i id)
+  unfolding addDevice asked pick
+  device-zero e er = er ∙ rw e (ap (λ (g : Gate). settledReply g l (holding l (addDevice (textOf l) 0 b i id .text))) (sym (shut-stays (insertStr (textOf l) (deviceText 0 b i id) .tests) refusal.MmioSize)))
+
+  pub device-slug : {s : List ℕ} {r : Reply} → (n ≡ 0 → ⊥) → s ≡ deviceText n b i id → r ≡ replyOf l (insertStr (textOf l) s)
+      → r ≡ replyOf l (addDevice (textOf l) n b i id)
+  unfolding addDevice asked pick
+  device-slug some es er = er ∙ rw (ne-eqb n 0 some, es)

@@ -1,0 +1,15 @@
+pub mod ListLaws
+pub mod BytesLaws
+pub mod TrimmingLaws
+pub mod ValuesLaws
+pub mod StoredLaws
+pub mod TextLaws
+pub mod PlanLaws
+pub mod HeldLaws
+pub mod ListsLaws
+pub mod SplittingLaws
+pub mod DigitsLaws
+pub mod DeviceFits
+pub mod DeviceLaws
+pub mod WritingLaws
+pub mod MakingLaws

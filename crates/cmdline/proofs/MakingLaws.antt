@@ -1,0 +1,71 @@
+-- Laws of how a line is made.
+use Prim.Native.Nat.{ℕ, _+_, _≤_, min}
+use mathlib.Core.Path.{_≡_, refl, sym, ap, _∙_}
+use mathlib.Core.Bool.{Bool, true}
+use mathlib.Core.List.{List, [], _∷_}
+use native.Mathlib.Omega.{arith}
+use lib.Dec.{leb}
+use lib.ListN.{length, take, drop, replicate, length-replicate}
+use lib.Seq.{sets}
+use borrow.Author.Tests.{leb-true}
+use Rattle.answers.specs.Tests.{asked, askedAll, AllHold}
+use Rattle.answers.specs.declared.Refusal.the-variants as refusal
+use Rattle.answers.specs.declared.Gate.{Gate}
+use Rattle.answers.specs.declared.Gate.the-variants.{Open}
+use Rattle.cmdline.specs.declared.Cmdline.{Cmdline}
+use Rattle.cmdline.specs.declared.Reply.{Reply}
+use Rattle.cmdline.specs.Limit.{limit, allowed}
+use Rattle.cmdline.specs.Text.{sizeOf, counted}
+use Rattle.cmdline.specs.Trimming.{trim}
+use Rattle.cmdline.specs.Splitting.{splitAt, bootPart, initPart}
+use Rattle.cmdline.specs.Making.{new, parted, tryFrom}
+use Rattle.cmdline.specs.Stored.{Stored}
+use Rattle.cmdline.specs.Held.{blankLine, clampedLine, holding, settledReply, madeOf}
+use Rattle.cmdline.proofs.BytesLaws.{both-right}
+use Rattle.cmdline.proofs.TextLaws.{size-boot, size-init, size-clipped}
+use Rattle.cmdline.proofs.PlanLaws.{asked-where}
+use Rattle.cmdline.proofs.HeldLaws.{settles}
+
+pub allowed-most : (c : ℕ) → allowed c ≡ true → c ≤ limit
+unfolding allowed
+allowed-most c e = leb-true c limit (both-right (leb 1 c) (leb c limit) e)
+
+-- an empty line
+pub new-reply : (c : ℕ) {a : Bool} {g : Gate} {x y : Cmdline} {r : Reply} → a ≡ allowed c → g ≡ asked Open a refusal.InvalidCapacity → x ≡ blankLine 0
+    → y ≡ blankLine c → r ≡ settledReply g x y → r ≡ madeOf (new c)
+unfolding new
+new-reply c ea eg ex ey er = er ∙ rw (ex, ey, eg, ea)
+
+-- a line from its text
+module _ (raw : List ℕ) (c at : ℕ) (place : at ≡ splitAt raw) (before after rest : List ℕ) (first : before ≡ trim (take at raw))
+    (second : after ≡ trim rest) (later : rest ≡ drop 4 (drop at raw)) where
+  boot-is : before ≡ bootPart raw
+  boot-is = rw (← place) first
+
+  init-is : after ≡ initPart raw
+  init-is = rw (← place, ← later) second
+
+  pub from-reply : {a : Bool} {g h : Gate} {m n p q k : ℕ} {d f : List ℕ} {x next : Cmdline} {r : Reply} → a ≡ allowed c
+      → g ≡ asked Open a refusal.InvalidCapacity → m ≡ min (length before) limit → n ≡ min (length after) limit → k ≡ sizeOf m n
+      → h ≡ asked g (leb k c) refusal.InvalidCapacity → Stored (replicate limit 0) 0 before d p → Stored (replicate limit 0) 0 after f q
+      → x ≡ blankLine 0 → next ≡ clampedLine d m f n c → r ≡ settledReply h x next → r ≡ madeOf (tryFrom raw c)
+  unfolding tryFrom
+  from-reply {a} {g} {h} {m} {n} {p} {q} {k} {d} {f} {x} {next} ea eg em en ek eh sd sf ex enext er =
+      settles (blankLine 0) (holding (blankLine 0) (parted raw c)) (tryFrom raw c .tests) h next (er ∙ ap (λ (y : Cmdline). settledReply h y next) ex)
+      (eh ∙ rw (eg, ea, ek) (asked-where ((allowed c, refusal.InvalidCapacity) ∷ []) refusal.InvalidCapacity fits))
+      (λ hold. enext ∙ same hold)
+    where
+      fits : AllHold ((allowed c, refusal.InvalidCapacity) ∷ []) → leb (sizeOf m n) c ≡ leb (counted (parted raw c)) c
+      fits hold =
+          size-clipped (length before) (length after) c em en (allowed-most c (hold .0)) ∙ rw (← boot-is, ← init-is)
+
+      same : AllHold (tryFrom raw c .tests) → clampedLine d m f n c ≡ holding (blankLine 0) (parted raw c)
+      same hold =
+          let top = allowed-most c (hold .0) in
+          let size : sizeOf (length before) (length after) ≤ c = rw (boot-is, init-is) (leb-true (counted (parted raw c)) c (hold .1 .0)) in
+          let b = size-boot (length before) (length after) in
+          let i = size-init (length before) (length after) in
+          let mb : min m limit ≡ length before = omega arith in
+          let nb : min n limit ≡ length after = omega arith in
+          let cb : min c limit ≡ c = omega arith in
+          rw (mb, nb, cb, sd .bytes, sf .bytes, ← boot-is, ← init-is)

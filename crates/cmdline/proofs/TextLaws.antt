@@ -1,0 +1,111 @@
+-- Laws of the counted size, of what an insertion is charged, and of room.
+use Prim.Native.Nat.{ℕ, _+_, _≤_, _<_, min}
+use mathlib.Core.Path.{_≡_, refl, sym, ap, _∙_}
+use mathlib.Core.Bool.{Bool, true, false}
+use mathlib.Core.List.{List, [], _∷_, _++_}
+use native.Mathlib.Omega.{arith}
+use native.Mathlib.Decide.{decLe}
+use lib.Dec.{leb, eqb}
+use lib.ListN.{length, length-append}
+use borrow.Author.Tests.{le-leb, lt-leb, eqb-true}
+use Rattle.answers.specs.Pick.{pick}
+use Rattle.answers.proofs.PickLaws.{pick-with}
+use Rattle.cmdline.specs.Limit.{limit}
+use Rattle.cmdline.specs.Text.{sizeOf, bootGap, initGap, spaceAfter, joined}
+
+-- ---- sizes
+
+-- both parts lie within the counted size, and the zero with the boot text
+pub size-boot : (b i : ℕ) → b + 1 ≤ sizeOf b i
+unfolding sizeOf
+size-boot b i = omega arith
+
+pub size-init : (b i : ℕ) → i + 1 ≤ sizeOf b i
+unfolding sizeOf
+size-init b i =
+    pick-with (λ n. i + 1 ≤ b + 1 + n) (eqb i 0) (λ e. let z = eqb-true i 0 e in omega arith) (λ e. omega arith)
+
+pub size-most : (b i : ℕ) → sizeOf b i ≤ b + 1 + (4 + i)
+unfolding sizeOf
+size-most b i = pick-with (λ n. b + 1 + n ≤ b + 1 + (4 + i)) (eqb i 0) (λ e. omega arith) (λ e. omega arith)
+
+pub boot-gap-most : (b : ℕ) → bootGap b ≤ 1
+unfolding bootGap
+boot-gap-most b = pick-with (λ n. n ≤ 1) (eqb b 0) (λ e. omega arith) (λ e. omega arith)
+
+pub init-gap-most : (i : ℕ) → initGap i ≤ 4
+unfolding initGap
+init-gap-most i = pick-with (λ n. n ≤ 4) (eqb i 0) (λ e. omega arith) (λ e. omega arith)
+
+-- ---- joined texts
+
+space-long : (n : ℕ) → length (spaceAfter n) ≡ bootGap n
+unfolding spaceAfter bootGap pick
+space-long n = split (eqb n 0)
+  where
+    split : (t : Bool) → length (pick {A = List ℕ} t [] (32 ∷ [])) ≡ pick t 0 1
+    split true = refl
+    split false = refl
+
+pub joined-long : (b s : List ℕ) → length (joined b s) ≡ length b + bootGap (length b) + length s
+joined-long b s =
+    let g = space-long (length b) in
+    length-append b (spaceAfter (length b) ++ s) ∙ rw (length-append (spaceAfter (length b)) s, g) (omega arith)
+
+-- the counted size after an insertion: what room was asked for, or less
+pub size-after-boot : (b i g n : ℕ) → sizeOf (b + g + n) i ≡ sizeOf b i + g + n
+unfolding sizeOf
+size-after-boot b i g n = omega arith
+
+pub size-after-init : (b i n : ℕ) → sizeOf b (i + bootGap i + n) ≤ sizeOf b i + initGap i + n
+unfolding sizeOf bootGap initGap pick
+size-after-init b i n = split (eqb i 0) refl
+  where
+    later : (t : Bool) (x k : ℕ) → 4 + x ≤ k → pick t 0 (4 + x) ≤ k
+    later true x k h = omega arith
+    later false x k h = h
+
+    split : (t : Bool) → eqb i 0 ≡ t
+        → b + 1 + pick (eqb (i + pick t 0 1 + n) 0) 0 (4 + (i + pick t 0 1 + n)) ≤ b + 1 + pick t 0 (4 + i) + pick t 4 1 + n
+    split true e =
+        let z = eqb-true i 0 e in
+        let l = later (eqb (i + 0 + n) 0) (i + 0 + n) (4 + n) (omega arith) in
+        omega arith
+    split false e = let l = later (eqb (i + 1 + n) 0) (i + 1 + n) (4 + i + 1 + n) (omega arith) in omega arith
+
+-- an init text with what joins it to the next lies within what is asked for
+pub init-asked : (b i : ℕ) → i + bootGap i ≤ sizeOf b i + initGap i
+unfolding sizeOf bootGap initGap pick
+init-asked b i = split (eqb i 0) refl
+  where
+    split : (t : Bool) → eqb i 0 ≡ t → i + pick t 0 1 ≤ b + 1 + pick t 0 (4 + i) + pick t 4 1
+    split true e = let z = eqb-true i 0 e in omega arith
+    split false e = omega arith
+
+-- ---- room
+
+-- a length above the limit has no room, whether it counts in full or as the limit
+pub room-clipped : (size n c : ℕ) {m : ℕ} → m ≡ min n limit → 1 ≤ size → c ≤ limit → leb (size + m) c ≡ leb (size + n) c
+room-clipped size n c {m} e low high = split (decLe n limit)
+  where
+    split : Dec (n ≤ limit) → leb (size + m) c ≡ leb (size + n) c
+    split (yes h) = ap (λ (k : ℕ). leb (size + k) c) (let same : m ≡ n = omega arith in same)
+    split (no h) = lt-leb (size + m) c (omega arith) ∙ sym (lt-leb (size + n) c (omega arith))
+
+-- and so do parts of a text that are above the limit
+pub size-clipped : (b i c : ℕ) {m n : ℕ} → m ≡ min b limit → n ≡ min i limit → c ≤ limit → leb (sizeOf m n) c ≡ leb (sizeOf b i) c
+size-clipped b i c {m} {n} em en high = split (decLe b limit) (decLe i limit)
+  where
+    split : Dec (b ≤ limit) → Dec (i ≤ limit) → leb (sizeOf m n) c ≡ leb (sizeOf b i) c
+    split (yes hb) (yes hi) =
+        let sb : m ≡ b = omega arith in
+        let si : n ≡ i = omega arith in
+        rw (sb, si)
+    split (no hb) di =
+        let x = size-boot m n in
+        let y = size-boot b i in
+        lt-leb (sizeOf m n) c (omega arith) ∙ sym (lt-leb (sizeOf b i) c (omega arith))
+    split (yes hb) (no hi) =
+        let x = size-init m n in
+        let y = size-init b i in
+        lt-leb (sizeOf m n) c (omega arith) ∙ sym (lt-leb (sizeOf b i) c (omega arith))

@@ -1,0 +1,40 @@
+-- `writing::write`: one part after the other.
+use mathlib.Core.List.{_++_, _∷_, [], append-assoc}
+use mathlib.Core.Path.{_∙_, ap, sym}
+use lib.Seq.{sets}
+use borrow.Author.Needs.{needs}
+use Rattle.cmdline.specs.Text.{separator}
+use Rattle.cmdline.proofs.StoredLaws.{stored-within, then}
+use Rattle.cmdline.proofs.WritingLaws.{whole-none, whole-some}
+use Rattle.cmdline.proofs.writing.write.Statement.{statement}
+use Rattle.cmdline.proofs.writing.write.Tie as tie
+
+returns : tie.Need-returns
+returns c =
+    let args = c .before .before .before .before .before .before .before .before .before .before .before .before .before .args in
+    let stored = then (c .before .before .before .before .before .before .before .before .put .ensures) (c .before .before .put2 .ensures) in
+    stored .bytes ∙ rw (whole-none (args .boot .now) (args .init .now) (c .before .before .before .before .before .if1 .taken))
+
+returns-2 : tie.Need-returns-2
+returns-2 c =
+    let args = c .before .before .before .before .before .before .before .before .before .before .before .before .before .before .before .before .before .before .before .before .before .before .args in
+    let stored = then (then (then (c .before .before .before .before .before .before .before .before .before .before .before .before .before .before .before .before .before .put .ensures) (c .before .before .before .before .before .before .before .before .before .before .before .put3 .ensures)) (c .before .before .before .before .before .before .before .put4 .ensures)) (c .before .before .put5 .ensures) in
+    let parts = append-assoc (args .boot .now) separator (args .init .now) ∙ sym (whole-some (args .boot .now) (args .init .now) (c .before .before .before .before .before .before .before .before .before .before .before .before .before .before .if1 .left)) in
+    stored .bytes ∙ ap (λ text. sets (args .out .now) 0 (text ++ (0 ∷ []))) parts
+
+pub write-spec : {M : Type 1} → statement M
+write-spec =
+    tie.close
+    (tie.spec
+    (λ c κs. search needs)
+    (λ c. search needs)
+    (λ c κs. stored-within (c .before .before .before .before .before .put .ensures))
+    (λ c. search needs)
+    returns
+    (λ c. search needs)
+    (λ c κs. stored-within (c .before .before .before .before .before .put .ensures))
+    (λ c κs. stored-within (c .before .before .before .put3 .ensures))
+    (λ c. search needs)
+    (λ c κs. stored-within (c .before .before .before .before .put4 .ensures))
+    (λ c. search needs)
+    returns-2)

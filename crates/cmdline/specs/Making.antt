@@ -1,0 +1,22 @@
+-- How a line is made. A making that is refused leaves an empty line of capacity 0.
+use Prim.Native.Nat.{ℕ}
+use mathlib.Core.List.{List, [], _∷_}
+use lib.Dec.{leb}
+use Rattle.answers.specs.declared.Refusal.the-variants as refusal
+use Rattle.cmdline.specs.Limit.{allowed}
+use Rattle.cmdline.specs.Text.{Text, empty, counted}
+use Rattle.cmdline.specs.Insertion.{Plan}
+use Rattle.cmdline.specs.Splitting.{bootPart, initPart}
+
+-- a capacity that is allowed
+unfoldable pub new : ℕ → Plan
+new c = record { tests = (allowed c, refusal.InvalidCapacity) ∷ []; text = empty c }
+
+-- the two parts of a text
+abbrev pub parted : List ℕ → ℕ → Text
+parted s c = record { boot = bootPart s; init = initPart s; capacity = c }
+
+-- a capacity that is allowed, then that the two parts fit
+unfoldable pub tryFrom : List ℕ → ℕ → Plan
+tryFrom s c =
+    record { tests = (allowed c, refusal.InvalidCapacity) ∷ (leb (counted (parted s c)) c, refusal.InvalidCapacity) ∷ []; text = parted s c }

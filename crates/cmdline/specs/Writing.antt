@@ -1,0 +1,80 @@
+-- The written line, and equality by written answers.
+use Prim.Native.Nat.{ℕ, _+_}
+use mathlib.Core.Bool.{Bool, true, false, not, _&&_}
+use mathlib.Core.List.{List, [], _∷_, _++_}
+use lib.Dec.{leb, ltb, eqb}
+use lib.ListN.{length}
+use Rattle.answers.specs.Pick.{pick}
+use Rattle.answers.specs.Catalogue.{numberOf}
+use Rattle.answers.specs.Tests.{Test, askedAll}
+use Rattle.answers.specs.declared.Refusal.{Refusal}
+use Rattle.answers.specs.declared.Refusal.the-variants as refusal
+use Rattle.answers.specs.declared.Gate.{Gate}
+use Rattle.answers.specs.declared.Gate.the-variants.{Open, Shut}
+use Rattle.cmdline.specs.declared.Written.{Written}
+use Rattle.cmdline.specs.declared.Written.the-variants as written
+use Rattle.cmdline.specs.Bytes.{has}
+use Rattle.cmdline.specs.Text.{Text, separator}
+
+-- the whole text, without its zero: boot, and the separator and init if init is not empty
+unfoldable pub wholeOf : List ℕ → List ℕ → List ℕ
+wholeOf boot init = boot ++ pick (eqb (length init) 0) [] (separator ++ init)
+
+abbrev pub whole : Text → List ℕ
+whole t = wholeOf (t .boot) (t .init)
+
+-- no init text, or boot text before it
+unfoldable pub headed : ℕ → ℕ → Bool
+headed boots inits = pick (eqb inits 0) true (ltb 0 boots)
+
+-- no init text alone, then no zero byte in the text
+unfoldable pub textTests : List ℕ → List ℕ → List Test
+textTests boot init =
+    (headed (length boot) (length init), refusal.NoBootArgsInserted) ∷ (not (has 0 (wholeOf boot init)), refusal.NullTerminator) ∷ []
+
+-- what is said of the text, given room
+abbrev pub gateOf : List ℕ → List ℕ → Gate
+gateOf boot init = askedAll Open (textTests boot init)
+
+abbrev pub textGate : Text → Gate
+textGate t = gateOf (t .boot) (t .init)
+
+-- the text's tests, then room for it and its zero
+abbrev pub writeTests : Text → ℕ → List Test
+writeTests t room = textTests (t .boot) (t .init) ++ ((leb (length (whole t) + 1) room, refusal.NoRoom) ∷ [])
+
+abbrev pub writeGate : Text → ℕ → Gate
+writeGate t room = askedAll Open (writeTests t room)
+
+-- what writing says: the bytes written, the zero counted
+abbrev pub writtenOf : Gate → Text → Written
+writtenOf Open t = written.Bytes (length (whole t) + 1)
+writtenOf (Shut r) t = written.Refused r
+
+-- the catalogue's number of what writing says; a line that is written has none, and counts as 0
+abbrev pub writtenNumber : Written → ℕ
+writtenNumber (written.Bytes n) = 0
+writtenNumber (written.Refused r) = numberOf r
+
+-- the bytes that are written: the text and its zero, or nothing
+abbrev pub bytesOf : Gate → Text → List ℕ
+bytesOf Open t = whole t ++ (0 ∷ [])
+bytesOf (Shut r) t = []
+
+-- two texts are the same
+unfoldable pub sameBytes : List ℕ → List ℕ → Bool
+sameBytes [] [] = true
+sameBytes [] (y ∷ ys) = false
+sameBytes (x ∷ xs) [] = false
+sameBytes (x ∷ xs) (y ∷ ys) = eqb x y && sameBytes xs ys
+
+-- two answers are the same: the same refusal, or two texts that are the same
+abbrev pub sameAnswer : Gate → Gate → Bool → Bool
+sameAnswer Open Open same = same
+sameAnswer Open (Shut s) same = false
+sameAnswer (Shut r) Open same = false
+sameAnswer (Shut r) (Shut s) same = eqb (numberOf r) (numberOf s)
+
+-- two lines are equal when their written answers, given room, are
+abbrev pub sameLine : Text → Text → Bool
+sameLine a b = sameAnswer (textGate a) (textGate b) (sameBytes (whole a) (whole b))

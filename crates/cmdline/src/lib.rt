@@ -1,0 +1,248 @@
+// Copyright 2018 Amazon.com, Inc. or its affiliates. All Rights Reserved.
+//
+// Portions Copyright 2017 The Chromium OS Authors. All rights reserved.
+// Use of this source code is governed by a BSD-style license that can be
+// found in the LICENSE-BSD-3-Clause file.
+//
+// SPDX-License-Identifier: Apache-2.0 AND BSD-3-Clause
+//
+// A kernel command line: built word by word, read from a text, written with its zero, compared.
+ghost use mathlib.Core.Path.{_≡_};
+ghost use Rattle.cmdline.specs.Insertion.{insertStr, insertInitArgs, insert};
+ghost use Rattle.cmdline.specs.Lists.{insertMultiple};
+ghost use Rattle.cmdline.specs.Device.{addDevice};
+ghost use Rattle.cmdline.specs.Making.{new, tryFrom};
+ghost use Rattle.cmdline.specs.Writing.{textGate, sameLine};
+ghost use Rattle.cmdline.specs.Held.{textOf, blankLine, settledReply, replyOf, madeOf, clampedLine, WrittenAs};
+use answers::Gate;
+use answers::Refusal;
+use fields::copying;
+use guest::GuestAddress;
+
+mod buffers;
+mod bytes;
+mod device;
+mod digits;
+mod keys;
+mod lists;
+mod sizes;
+mod splitting;
+mod trimming;
+mod values;
+mod writing;
+
+// The greatest capacity, the closing zero counted, and the length of each buffer.
+pub const LIMIT: usize = 4096;
+
+// The two texts, each at the start of its buffer with zeros after it, and the greatest counted size. A length or a capacity above
+// LIMIT, which no function here makes, counts as LIMIT.
+pub struct Cmdline {
+    boot: [u8; LIMIT],
+    boots: usize,
+    init: [u8; LIMIT],
+    inits: usize,
+    capacity: usize,
+}
+
+// What a call says.
+pub enum Answer {
+    Accepted,
+    Refused(Refusal),
+}
+
+// What a call says, and the line after it: unchanged where it is refused. A making that is refused hands back an empty line of capacity 0.
+pub struct Reply {
+    pub answer: Answer,
+    pub line: Cmdline,
+}
+
+// What writing says: how many bytes, the zero counted, or the refusal.
+pub enum Written {
+    Bytes(usize),
+    Refused(Refusal),
+}
+
+// The platform device ID of a device, if it has one.
+pub enum DeviceId {
+    Nothing,
+    Number(u32),
+}
+
+fn blank_line(capacity: usize) -> Cmdline
+    ensures { λ r. ⌜ r ≡ blankLine capacity ⌝ }
+{
+    Cmdline {
+        boot: [0; LIMIT],
+        boots: 0,
+        init: [0; LIMIT],
+        inits: 0,
+        capacity: capacity,
+    }
+}
+
+// The line after it where every test held, the line before it where one failed.
+fn settled(gate: Gate, before: Cmdline, after: Cmdline) -> Reply
+    ensures { λ r. ⌜ r ≡ settledReply gate before after ⌝ }
+{
+    match gate {
+        Gate::Shut(refusal) => Reply { answer: Answer::Refused(refusal), line: before },
+        Gate::Open => Reply { answer: Answer::Accepted, line: after },
+    }
+}
+
+// The line of two buffers and their numbers, each number no more than the limit.
+fn clamped(boot: [u8; LIMIT], boots: usize, init: [u8; LIMIT], inits: usize, capacity: usize) -> Cmdline
+    ensures { λ r. ⌜ r ≡ clampedLine boot boots init inits capacity ⌝ }
+{
+    Cmdline {
+        boot: boot,
+        boots: copying::lesser(boots, LIMIT),
+        init: init,
+        inits: copying::lesser(inits, LIMIT),
+        capacity: copying::lesser(capacity, LIMIT),
+    }
+}
+
+// What the written answer says, given room: 50, 51, or that it is good.
+fn text_gate(line: Cmdline) -> Gate
+    ensures { λ r. ⌜ r ≡ textGate (textOf line) ⌝ }
+{
+    let boots = copying::lesser(line.boots, LIMIT);
+    let inits = copying::lesser(line.inits, LIMIT);
+    let boot = line.boot;
+    let init = line.init;
+    writing::text_gate(&boot[..boots], &init[..inits])
+}
+
+impl Cmdline {
+    // An empty line.
+    pub fn new(capacity: usize) -> Reply
+        ensures { λ r. ⌜ r ≡ madeOf (new capacity) ⌝ }
+    {
+        let gate = answers::require(Gate::Open, sizes::is_capacity(capacity), Refusal::InvalidCapacity);
+        settled(gate, blank_line(0), blank_line(capacity))
+    }
+
+    // A key, an equals sign and a value, after the boot text.
+    pub fn insert(self, key: &[u8], value: &[u8]) -> Reply
+        ensures { λ r. ⌜ r ≡ replyOf self (insert (textOf self) (now (key .entry)) (now (value .entry))) ⌝ }
+    {
+        let gate = keys::ask(Gate::Open, key);
+        let gate = values::ask(gate, value);
+        let room = sizes::boot_room(self.boots, self.inits, self.capacity, sizes::sum(sizes::sum(key.len(), 1), value.len()));
+        let gate = answers::require(gate, room, Refusal::TooLarge);
+        let mut boot = self.boot;
+        let init = self.init;
+        let n = buffers::put_pair(&mut boot, copying::lesser(self.boots, LIMIT), key, value);
+        settled(gate, self, clamped(boot, n, init, self.inits, self.capacity))
+    }
+
+    // A key, an equals sign and values joined by commas, after the boot text. The values stand one after the other in a buffer, and the
+    // list has the end of each.
+    pub fn insert_multiple(self, key: &[u8], values: &[u8], ends: &[usize]) -> Reply
+        ensures { λ r. ⌜ r ≡ replyOf self (insertMultiple (textOf self) (now (key .entry)) (now (values .entry)) (now (ends .entry))) ⌝ }
+    {
+        let gate = answers::require(Gate::Open, lists::is_list(ends, values.len()), Refusal::BadList);
+        let gate = keys::ask(gate, key);
+        let gate = answers::require(gate, 0 < ends.len(), Refusal::MissingVal);
+        let gate = lists::ask(gate, values, ends);
+        let room = sizes::boot_room(self.boots, self.inits, self.capacity, sizes::sum(sizes::sum(key.len(), ends.len()), values.len()));
+        let gate = answers::require(gate, room, Refusal::TooLarge);
+        let mut boot = self.boot;
+        let init = self.init;
+        let n = lists::put_list(&mut boot, copying::lesser(self.boots, LIMIT), key, values, ends);
+        settled(gate, self, clamped(boot, n, init, self.inits, self.capacity))
+    }
+
+    // A slug, after the boot text.
+    pub fn insert_str(self, slug: &[u8]) -> Reply
+        ensures { λ r. ⌜ r ≡ replyOf self (insertStr (textOf self) (now (slug .entry))) ⌝ }
+    {
+        let s = trimming::trimmed(slug);
+        let gate = answers::require(Gate::Open, bytes::all_printable(s), Refusal::InvalidAscii);
+        let gate = answers::require(gate, sizes::boot_room(self.boots, self.inits, self.capacity, s.len()), Refusal::TooLarge);
+        let mut boot = self.boot;
+        let init = self.init;
+        let n = buffers::put_after(&mut boot, copying::lesser(self.boots, LIMIT), s);
+        settled(gate, self, clamped(boot, n, init, self.inits, self.capacity))
+    }
+
+    // A slug, after the init text.
+    pub fn insert_init_args(self, slug: &[u8]) -> Reply
+        ensures { λ r. ⌜ r ≡ replyOf self (insertInitArgs (textOf self) (now (slug .entry))) ⌝ }
+    {
+        let s = trimming::trimmed(slug);
+        let gate = answers::require(Gate::Open, bytes::all_printable(s), Refusal::InvalidAscii);
+        let gate = answers::require(gate, sizes::init_room(self.boots, self.inits, self.capacity, s.len()), Refusal::TooLarge);
+        let boot = self.boot;
+        let mut init = self.init;
+        let n = buffers::put_after(&mut init, copying::lesser(self.inits, LIMIT), s);
+        settled(gate, self, clamped(boot, self.boots, init, n, self.capacity))
+    }
+
+    // The text of a virtio device, after the boot text.
+    pub fn add_virtio_mmio_device(self, size: u64, baseaddr: GuestAddress, irq: u32, id: DeviceId) -> Reply
+        ensures { λ r. ⌜ r ≡ replyOf self (addDevice (textOf self) size (baseaddr .0) irq id) ⌝ }
+    {
+        if size == 0 {
+            return settled(Gate::Shut(Refusal::MmioSize), self, self);
+        }
+        let mut text = [0u8; 80];
+        let n = device::text(&mut text, size, baseaddr.0, irq, id);
+        self.insert_str(&text[..n])
+    }
+
+    // A line from its text: boot text and init text parted by the first separator outside of quotes.
+    pub fn try_from(raw: &[u8], capacity: usize) -> Reply
+        ensures { λ r. ⌜ r ≡ madeOf (tryFrom (now (raw .entry)) capacity) ⌝ }
+    {
+        let at = splitting::split_at(raw);
+        let before = trimming::trimmed(&raw[..at]);
+        let after = trimming::trimmed(splitting::after(raw, at));
+        let gate = answers::require(Gate::Open, sizes::is_capacity(capacity), Refusal::InvalidCapacity);
+        let boots = copying::lesser(before.len(), LIMIT);
+        let inits = copying::lesser(after.len(), LIMIT);
+        let gate = answers::require(gate, sizes::counted(boots, inits) <= capacity, Refusal::InvalidCapacity);
+        let mut boot = [0u8; LIMIT];
+        let mut init = [0u8; LIMIT];
+        buffers::put(&mut boot, 0, before);
+        buffers::put(&mut init, 0, after);
+        settled(gate, blank_line(0), clamped(boot, boots, init, inits, capacity))
+    }
+
+    // The text of the line and its closing zero, written to the start of out.
+    pub fn as_cstring(self, out: &mut [u8]) -> Written
+        ensures { λ r. ⌜ WrittenAs self (now (out .entry)) r (now (out .exit)) ⌝ }
+    {
+        let gate = text_gate(self);
+        let boots = copying::lesser(self.boots, LIMIT);
+        let inits = copying::lesser(self.inits, LIMIT);
+        let count = sizes::counted(boots, inits);
+        let gate = answers::require(gate, count <= out.len(), Refusal::NoRoom);
+        match gate {
+            Gate::Shut(refusal) => Written::Refused(refusal),
+            Gate::Open => {
+                let boot = self.boot;
+                let init = self.init;
+                writing::write(out, &boot[..boots], &init[..inits]);
+                Written::Bytes(count)
+            }
+        }
+    }
+
+    // Are the written answers, given room, the same?
+    pub fn eq(self, other: Cmdline) -> bool
+        ensures { λ r. ⌜ r ≡ sameLine (textOf self) (textOf other) ⌝ }
+    {
+        let boots = copying::lesser(self.boots, LIMIT);
+        let inits = copying::lesser(self.inits, LIMIT);
+        let boots2 = copying::lesser(other.boots, LIMIT);
+        let inits2 = copying::lesser(other.inits, LIMIT);
+        let boot = self.boot;
+        let init = self.init;
+        let boot2 = other.boot;
+        let init2 = other.init;
+        let same = writing::same_whole(&boot[..boots], &init[..inits], &boot2[..boots2], &init2[..inits2]);
+        writing::same_answer(text_gate(self), text_gate(other), same)
+    }
+}

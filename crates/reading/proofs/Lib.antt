@@ -1,0 +1,4 @@
+pub mod PlacesLaws
+pub mod ReadersLaws
+pub mod NotesLaws
+pub mod Outcomes

@@ -1,0 +1,4 @@
+pub mod Places
+pub mod Readers
+pub mod Notes
+pub mod Outcome
