@@ -1,6 +1,6 @@
 -- Laws of ranges.
 use Prim.Native.Nat.{ℕ, _+_, _-_, _≤_, _<_}
-use mathlib.Core.Path.{_≡_, sym, _∙_}
+use mathlib.Core.Path.{_≡_, sym, _∙_, refl}
 use mathlib.Core.Bool.{true, false}
 use native.Mathlib.Omega.{arith}
 use native.Mathlib.Decide.{decLe}
@@ -8,7 +8,12 @@ use borrow.Author.Tests.{le-leb, lt-leb, leb-true, leb-false}
 use lib.Dec.{leb}
 use Rattle.fields.specs.Ranges.{liesWithin}
 
--- what the tests say of the sums
+-- the test is on the sum
+pub within-test : (len at n : ℕ) → liesWithin len at n ≡ leb (at + n) len
+unfolding liesWithin
+within-test len at n = refl
+
+-- what it says of the sum
 pub within-sum : (len at n : ℕ) → liesWithin len at n ≡ true → at + n ≤ len
 unfolding liesWithin
 within-sum len at n e = leb-true (at + n) len e
