@@ -66,10 +66,10 @@ unfolding digitsBefore
 digits-few zero b n later k z l p = omega arith
 digits-few (suc f) b n later k z l p =
     let more : (j : ℕ) → 1 ≤ j → n / b < b ^ j → length (digitsBefore f b (n / b) (digit (n % b) ∷ later)) ≤ j + length (digit (n % b) ∷ later) =
-        λ j a q. digits-few f b (n / b) (digit (n % b) ∷ later) j z a q in
+    λ j a q. digits-few f b (n / b) (digit (n % b) ∷ later) j z a q in
     pick-with (λ (ds : List ℕ). length ds ≤ k + length later) (ltb n b) (λ e. omega arith)
     (λ e.
-      let h = ltb-false n b e in
-      let w = two-left b n k l h p in
-      let r = more (k - 1) (omega arith) (down b n k z l p) in
-      omega arith)
+    let h = ltb-false n b e in
+    let w = two-left b n k l h p in
+    let r = more (k - 1) (omega arith) (down b n k z l p) in
+    omega arith)

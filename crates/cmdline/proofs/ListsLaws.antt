@@ -153,9 +153,10 @@ module _ (k s es : List ℕ) (hold : AllHold (listPre k s es)) where
 
   pub list-told : (trim (k ++ listed equals 0 es s) ≡ k ++ listed equals 0 es s) × (every printable (k ++ listed equals 0 es s) ≡ true)
   unfolding printable
-  list-told =
-      (list-kept k s es keys some (rest .1),
-        every-append printable k (listed equals 0 es s) (key-printable k keys) (listed-printable equals 0 es s refl (rest .1)))
+  list-told = (
+    list-kept k s es keys some (rest .1),
+    every-append printable k (listed equals 0 es s) (key-printable k keys) (listed-printable equals 0 es s refl (rest .1)),
+  )
 
   pub list-long : length (k ++ listed equals 0 es s) ≡ length k + length es + length s
   list-long =

@@ -55,7 +55,7 @@ unfoldable pub insertStr : Text → List ℕ → Plan
 insertStr t slug =
     record {
       tests = (every printable (trim slug), refusal.InvalidAscii) ∷ (bootRoom t (length (trim slug)), refusal.TooLarge) ∷ [];
-      text = withBoot t (joined (t .boot) (trim slug))
+      text = withBoot t (joined (t .boot) (trim slug));
     }
 
 -- the same for the init text
@@ -63,7 +63,7 @@ unfoldable pub insertInitArgs : Text → List ℕ → Plan
 insertInitArgs t slug =
     record {
       tests = (every printable (trim slug), refusal.InvalidAscii) ∷ (initRoom t (length (trim slug)), refusal.TooLarge) ∷ [];
-      text = withInit t (joined (t .init) (trim slug))
+      text = withInit t (joined (t .init) (trim slug));
     }
 
 -- a key, an equals sign and a value

@@ -25,7 +25,11 @@ fn is_headed(boots: usize, inits: usize) -> bool
 pub fn text_gate(boot: &[u8], init: &[u8]) -> Gate
     ensures { λ r. ⌜ r ≡ gateOf (now (boot .entry)) (now (init .entry)) ⌝ }
 {
-    let gate = answers::require(Gate::Open, is_headed(boot.len(), init.len()), Refusal::NoBootArgsInserted);
+    let gate = answers::require(
+        Gate::Open,
+        is_headed(boot.len(), init.len()),
+        Refusal::NoBootArgsInserted,
+    );
     let gate = answers::require(gate, !bytes::has(boot, 0), Refusal::NullTerminator);
     answers::require(gate, !bytes::has(init, 0), Refusal::NullTerminator)
 }

@@ -50,17 +50,15 @@ pub struct Walked {
     pub headers: u64,
 }
 
+// The note header at a place, read by the reader that keeps the image and its place together.
 fn read_note_header(image: &[u8], at: u64) -> NoteHeader
-    requires { ⌜ at + 12 ≤ length (now image) ⌝ }
     ensures { λ r. ⌜ r ≡ noteHeaderOf (now (image .entry)) at ⌝ }
 {
-    let n_namesz = numbers::read_u32(image, at);
-    let n_descsz = numbers::read_u32(image, at + 4);
-    let n_type = numbers::read_u32(image, at + 8);
+    let note = reading::notes::read_note_header(image, ImagePlace(at));
     NoteHeader {
-        n_namesz: n_namesz as u32,
-        n_descsz: n_descsz as u32,
-        n_type: n_type as u32,
+        n_namesz: note.namesz as u32,
+        n_descsz: note.descsz as u32,
+        n_type: note.kind as u32,
     }
 }
 
