@@ -81,9 +81,12 @@ module _ (s : List ℕ) (size : ℕ) (offset highmem : Given) where
   refused-by Open eg ea = let z : _≡_ {A = ℕ} 0 1 = cc in absurd (omega arith)
   refused-by {refusal} (Shut first) eg ea = let e : _≡_ {A = Refusal} first refusal = cc in eg ∙ ap Shut e
 
-  pub refused-outcome : {refusal : Refusal} → planOf s size offset highmem .answer ≡ Refused refusal → planOf s size offset highmem ≡ refusedAs refusal
+  pub plan-refused : {refusal : Refusal} → planOf s size offset highmem .answer ≡ Refused refusal → gateOf s size offset highmem ≡ Shut refusal
   unfolding planOf
-  refused-outcome e = plan-shut refl (refused-by (gateOf s size offset highmem) refl e)
+  plan-refused e = refused-by (gateOf s size offset highmem) refl e
+
+  pub refused-outcome : {refusal : Refusal} → planOf s size offset highmem .answer ≡ Refused refusal → planOf s size offset highmem ≡ refusedAs refusal
+  refused-outcome e = plan-shut refl (plan-refused e)
 
   -- a loaded kernel of some bytes lies in guest memory
   pub loaded-room : {k : KernelLoaderResult} → planOf s size offset highmem .answer ≡ Loaded k → 0 < kernelSize s

@@ -1,0 +1,5 @@
+pub mod LinesLaws
+pub mod Refusals
+pub mod LineWritten
+pub mod LongerGuest
+pub mod Outcomes
