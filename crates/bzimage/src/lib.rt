@@ -38,7 +38,7 @@ pub struct Outcome {
 }
 
 // Loads a kernel from a bzImage to guest memory: at the offset if one is given, else at `code32_start` of the setup header.
-pub fn load(guest: &mut [u8], kernel_offset: Given, image: &[u8], highmem_start: Given) -> Outcome
+pub fn load(guest: &mut [u8], image: &[u8], kernel_offset: Given, highmem_start: Given) -> Outcome
     ensures { λ r. ⌜ Loads (now (image .entry)) «kernel_offset» «highmem_start» (now (guest .entry)) r (now (guest .exit)) ⌝ }
 {
     let outcome = plan::plan_load(image, guest.len() as u64, kernel_offset, highmem_start);

@@ -70,7 +70,7 @@ fn at(address: u64) -> Given {
 // One load into 32 bytes of guest memory: its answer.
 fn answered(image: &[u8], offset: Given, highmem: Given) {
     let mut memory = [7u8; 32];
-    let outcome = bzimage::load(&mut memory, offset, image, highmem);
+    let outcome = bzimage::load(&mut memory, image, offset, highmem);
     let answer = outcome.answer;
     write_answer(answer);
 }
@@ -87,7 +87,7 @@ fn shorter(image: &[u8], n: usize, offset: Given) {
 // One load: guest memory from 15 to 19, and the header's first byte, that of its magic, of code32_start and its last.
 fn written(image: &[u8], offset: Given) {
     let mut memory = [7u8; 32];
-    let outcome = bzimage::load(&mut memory, offset, image, Given::Nothing);
+    let outcome = bzimage::load(&mut memory, image, offset, Given::Nothing);
     io::write_all(1, b"  guest");
     write_byte(memory[15]);
     write_byte(memory[16]);

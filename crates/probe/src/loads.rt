@@ -1,0 +1,154 @@
+// Loads of images and walks over notes.
+use crate::telling;
+use elf::NoteAnswer;
+use elf::PvhBootCapability;
+use fields::copying;
+use fields::numbers;
+use guest::Given;
+use guest::GuestAddress;
+use guest::ImagePlace;
+
+// The address at a place of the body, if the flags have the bit for it.
+fn given(body: &[u8], bit: u64, at: u64) -> Given {
+    let flags = numbers::byte_at(body, 1, 0);
+    if flags / bit % 2 == 1 {
+        Given::At(GuestAddress(numbers::read_u64(body, at)))
+    } else {
+        Given::Nothing
+    }
+}
+
+fn pvh(pvh: PvhBootCapability) {
+    telling::word(b" pvh");
+    match pvh {
+        PvhBootCapability::PvhEntryIgnored => telling::word(b" ignored"),
+        PvhBootCapability::PvhEntryNotPresent => telling::word(b" none"),
+        PvhBootCapability::PvhEntryPresent(a) => {
+            telling::word(b" at");
+            telling::number(a.0);
+        }
+    }
+}
+
+fn elf_answer(answer: elf::Answer) {
+    match answer {
+        elf::Answer::Loaded(result) => {
+            telling::word(b"elf ok");
+            telling::number(result.kernel_load.0);
+            telling::number(result.kernel_end.0);
+            let cap = result.pvh_boot_cap;
+            pvh(cap);
+        }
+        elf::Answer::Refused(refusal) => {
+            telling::word(b"elf refused");
+            telling::refusal(refusal);
+        }
+    }
+}
+
+// An image, and guest memory as it is before, both of the body, into guest memory.
+fn load_elf(body: &[u8], image: &[u8], before: &[u8], guest: &mut [u8]) {
+    copying::copy(guest, before);
+    let answer = elf::load(guest, image, given(body, 1, 2), given(body, 2, 10));
+    elf_answer(answer);
+    telling::guest(before, guest);
+}
+
+fn bzimage_answer(outcome: bzimage::Outcome) {
+    let answer = outcome.answer;
+    let header = outcome.setup_header;
+    match answer {
+        bzimage::Answer::Loaded(result) => {
+            telling::word(b"bzimage ok");
+            telling::number(result.kernel_load.0);
+            telling::number(result.kernel_end.0);
+            telling::word(b" header ");
+            telling::hex(&header);
+        }
+        bzimage::Answer::Refused(refusal) => {
+            telling::word(b"bzimage refused");
+            telling::refusal(refusal);
+        }
+    }
+}
+
+fn load_bzimage(body: &[u8], image: &[u8], before: &[u8], guest: &mut [u8]) {
+    copying::copy(guest, before);
+    let outcome = bzimage::load(guest, image, given(body, 1, 2), given(body, 2, 10));
+    bzimage_answer(outcome);
+    telling::guest(before, guest);
+}
+
+// Where the guest's bytes begin in the body of a load, and the body's length, if both lengths are right; else 0.
+fn middle(body: &[u8], room: usize) -> usize {
+    let image = numbers::read_u32(body, 18) as usize;
+    let guest = numbers::read_u32(body, 22) as usize;
+    if room < guest {
+        return 0;
+    }
+    if body.len() != 26 + image + guest {
+        return 0;
+    }
+    26 + image
+}
+
+pub fn elf(body: &[u8], guest: &mut [u8]) {
+    let at = middle(body, guest.len());
+    if at < 26 {
+        telling::malformed(b"the lengths of image and guest");
+        return;
+    }
+    if body.len() < at {
+        return;
+    }
+    let n = body.len() - at;
+    if guest.len() < n {
+        return;
+    }
+    let from = 26;
+    load_elf(body, &body[from..at], &body[at..], &mut guest[..n]);
+}
+
+pub fn bzimage(body: &[u8], guest: &mut [u8]) {
+    let at = middle(body, guest.len());
+    if at < 26 {
+        telling::malformed(b"the lengths of image and guest");
+        return;
+    }
+    if body.len() < at {
+        return;
+    }
+    let n = body.len() - at;
+    if guest.len() < n {
+        return;
+    }
+    let from = 26;
+    load_bzimage(body, &body[from..at], &body[at..], &mut guest[..n]);
+}
+
+pub fn note(body: &[u8]) {
+    if body.len() < 17 {
+        telling::malformed(b"no place and size");
+        return;
+    }
+    let from = 17;
+    let told = elf::parse_elf_note(
+        &body[from..],
+        ImagePlace(numbers::read_u64(body, 1)),
+        numbers::read_u64(body, 9),
+    );
+    let answer = told.answer;
+    match answer {
+        NoteAnswer::Says(cap) => {
+            telling::word(b"note ok");
+            pvh(cap);
+            telling::word(b" headers");
+            telling::number(told.headers);
+        }
+        NoteAnswer::Refused(refusal) => {
+            telling::word(b"note refused");
+            telling::refusal(refusal);
+        }
+    }
+    telling::word(b"\n");
+}
