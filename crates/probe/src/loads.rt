@@ -8,14 +8,21 @@ use guest::Given;
 use guest::GuestAddress;
 use guest::ImagePlace;
 
-// The address at a place of the body, if the flags have the bit for it.
-fn given(body: &[u8], bit: u64, at: u64) -> Given {
-    let flags = numbers::byte_at(body, 1, 0);
-    if flags / bit % 2 == 1 {
+// The address at a place of the body, where it is given.
+fn given(body: &[u8], at: u64, is_given: bool) -> Given {
+    if is_given {
         Given::At(GuestAddress(numbers::read_u64(body, at)))
     } else {
         Given::Nothing
     }
+}
+
+fn offset(body: &[u8]) -> Given {
+    given(body, 2, numbers::byte_at(body, 1, 0) % 2 == 1)
+}
+
+fn highmem(body: &[u8]) -> Given {
+    given(body, 10, numbers::byte_at(body, 1, 0) / 2 % 2 == 1)
 }
 
 fn pvh(pvh: PvhBootCapability) {
@@ -49,7 +56,7 @@ fn elf_answer(answer: elf::Answer) {
 // An image, and guest memory as it is before, both of the body, into guest memory.
 fn load_elf(body: &[u8], image: &[u8], before: &[u8], guest: &mut [u8]) {
     copying::copy(guest, before);
-    let answer = elf::load(guest, image, given(body, 1, 2), given(body, 2, 10));
+    let answer = elf::load(guest, image, offset(body), highmem(body));
     elf_answer(answer);
     telling::guest(before, guest);
 }
@@ -74,7 +81,7 @@ fn bzimage_answer(outcome: bzimage::Outcome) {
 
 fn load_bzimage(body: &[u8], image: &[u8], before: &[u8], guest: &mut [u8]) {
     copying::copy(guest, before);
-    let outcome = bzimage::load(guest, image, given(body, 1, 2), given(body, 2, 10));
+    let outcome = bzimage::load(guest, image, offset(body), highmem(body));
     bzimage_answer(outcome);
     telling::guest(before, guest);
 }
@@ -105,8 +112,9 @@ pub fn elf(body: &[u8], guest: &mut [u8]) {
     if guest.len() < n {
         return;
     }
+    let start = 0;
     let from = 26;
-    load_elf(body, &body[from..at], &body[at..], &mut guest[..n]);
+    load_elf(body, &body[from..at], &body[at..], &mut guest[start..n]);
 }
 
 pub fn bzimage(body: &[u8], guest: &mut [u8]) {
@@ -122,8 +130,9 @@ pub fn bzimage(body: &[u8], guest: &mut [u8]) {
     if guest.len() < n {
         return;
     }
+    let start = 0;
     let from = 26;
-    load_bzimage(body, &body[from..at], &body[at..], &mut guest[..n]);
+    load_bzimage(body, &body[from..at], &body[at..], &mut guest[start..n]);
 }
 
 pub fn note(body: &[u8]) {

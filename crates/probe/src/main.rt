@@ -1,4 +1,5 @@
 // Answers questions from standard input, a line for each, until it ends. docs/PROBE.md says how to ask.
+use fields::copying;
 use fields::numbers;
 use libc::STDIN_FILENO;
 
@@ -31,17 +32,20 @@ fn answer(body: &[u8], guest: &mut [u8]) {
     }
 }
 
-// Passes over n bytes of input, a buffer at a time; false where it ends before.
+// Passes over n bytes of input, at most a buffer of them; false where it ends before.
+fn passed_some(n: usize) -> bool {
+    let mut bytes = io::large_buffer();
+    let count = copying::lesser(n, 65536);
+    let from = 0;
+    io::read_full(STDIN_FILENO, &mut bytes[from..count]) == count
+}
+
+// Passes over n bytes of input, a buffer at a time.
 fn passed_over(n: usize) -> bool {
     let mut left = n;
     while 0 < left {
-        let mut bytes = io::large_buffer();
-        let count = fields::copying::lesser(left, 65536);
-        let got = io::read_full(STDIN_FILENO, &mut bytes[..count]);
-        if got < count {
-            return false;
-        }
-        if got == 0 {
+        let count = copying::lesser(left, 65536);
+        if !passed_some(count) {
             return false;
         }
         left -= count;
@@ -70,12 +74,13 @@ fn ask(body: &mut [u8], guest: &mut [u8]) -> bool {
         }
         return whole;
     }
-    let got = io::read_full(STDIN_FILENO, &mut body[..n]);
+    let from = 0;
+    let got = io::read_full(STDIN_FILENO, &mut body[from..n]);
     if got < n {
         telling::malformed(b"cut short");
         return false;
     }
-    answer(&body[..n], guest);
+    answer(&body[from..n], guest);
     true
 }
 
