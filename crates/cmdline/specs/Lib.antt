@@ -13,3 +13,7 @@ pub mod Making
 pub mod Writing
 pub mod Stored
 pub mod Held
+pub mod ZeroPast
+pub mod Growing
+pub mod Keeping
+pub mod Calls
