@@ -23,3 +23,4 @@ pub mod ZerosStay
 pub mod Outcomes
 pub mod DigitsReadBack
 pub mod EqualLines
+pub mod CasesHold

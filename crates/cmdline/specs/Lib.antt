@@ -17,3 +17,4 @@ pub mod ZeroPast
 pub mod Growing
 pub mod Keeping
 pub mod Calls
+pub mod Cases
