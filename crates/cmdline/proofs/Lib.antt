@@ -13,3 +13,14 @@ pub mod DeviceFits
 pub mod DeviceLaws
 pub mod WritingLaws
 pub mod MakingLaws
+pub mod LargerCapacity
+pub mod NothingLost
+pub mod CountedSize
+pub mod InsertedPair
+pub mod HeldTexts
+pub mod ZeroLaws
+pub mod ZerosStay
+pub mod Outcomes
+pub mod DigitsReadBack
+pub mod EqualLines
+pub mod CasesHold

@@ -13,3 +13,8 @@ pub mod Making
 pub mod Writing
 pub mod Stored
 pub mod Held
+pub mod ZeroPast
+pub mod Growing
+pub mod Keeping
+pub mod Calls
+pub mod Cases
