@@ -17,19 +17,20 @@ use Rattle.answers.proofs.TestsLaws.{open-all}
 use Rattle.cmdline.specs.declared.Answer.the-variants.{Accepted}
 use Rattle.cmdline.specs.declared.DeviceId.{DeviceId}
 use Rattle.cmdline.specs.Limit.{limit, allowed}
-use Rattle.cmdline.specs.Trimming.{trim}
-use Rattle.cmdline.specs.Bytes.{equals}
-use Rattle.cmdline.specs.Keys.{keyTests}
-use Rattle.cmdline.specs.Values.{valueTests}
-use Rattle.cmdline.specs.Text.{Text, sizeOf, counted, bootGap, initGap, joined}
-use Rattle.cmdline.specs.Insertion.{Plan, gateOf, answerOf, settled, after, pair, insert, insertStr, insertInitArgs}
-use Rattle.cmdline.specs.Lists.{listed, listPre, insertMultiple}
+use Rattle.slugs.specs.Trimming.{trim}
+use Rattle.slugs.specs.Bytes.{equals}
+use Rattle.slugs.specs.Keys.{keyTests}
+use Rattle.slugs.specs.Values.{valueTests, pair}
+use Rattle.cmdline.specs.Text.{Text, sizeOf, counted, bootGap, initGap}
+use Rattle.cmdline.specs.Insertion.{Plan, gateOf, answerOf, settled, after, insert, insertStr, insertInitArgs, insertMultiple}
+use Rattle.slugs.specs.Lists.{listed, listPre}
 use Rattle.cmdline.specs.Device.{deviceText, addDevice}
 use Rattle.cmdline.specs.Making.{new, parted, tryFrom}
 use Rattle.cmdline.specs.Calls
 use Rattle.cmdline.proofs.TextLaws.{joined-long, size-after-boot, size-after-init}
-use Rattle.cmdline.proofs.PlanLaws.{hold-right}
 use Rattle.cmdline.proofs.MakingLaws.{allowed-most, allowed-least}
+use Rattle.slugs.specs.Joining.{joined}
+use Rattle.slugs.proofs.RowsLaws.{hold-right}
 
 -- a line fits: its counted size is within its capacity
 abbrev pub Fits : Text → Type 0

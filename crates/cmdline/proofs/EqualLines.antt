@@ -17,11 +17,11 @@ use Rattle.answers.specs.declared.Gate.{Gate}
 use Rattle.answers.specs.declared.Gate.the-variants.{Open, Shut}
 use Rattle.cmdline.specs.declared.Written.{Written}
 use Rattle.cmdline.specs.declared.Written.the-variants as written
-use Rattle.cmdline.specs.Bytes.{has}
+use Rattle.slugs.specs.Bytes.{has}
 use Rattle.cmdline.specs.Text.{Text}
 use Rattle.cmdline.specs.Writing.{whole, headed, textTests, textGate, writeGate, writtenOf, bytesOf, sameBytes, sameAnswer, sameLine}
-use Rattle.cmdline.proofs.BytesLaws.{both-left, both-right}
-use Rattle.cmdline.proofs.PlanLaws.{all-append}
+use Rattle.slugs.proofs.BytesLaws.{both-left, both-right}
+use Rattle.slugs.proofs.RowsLaws.{all-append}
 
 -- ---- texts
 

@@ -8,14 +8,15 @@ use lib.ListN.{length}
 use Rattle.answers.specs.Tests.{AllHold}
 use Rattle.answers.specs.declared.Gate.the-variants.{Open}
 use Rattle.answers.proofs.TestsLaws.{open-all}
-use Rattle.cmdline.specs.Trimming.{trim}
-use Rattle.cmdline.specs.Keys.{keyTests}
-use Rattle.cmdline.specs.Values.{valueTests}
-use Rattle.cmdline.specs.Text.{Text, counted, bootGap, joined}
-use Rattle.cmdline.specs.Insertion.{gateOf, pair, insert, insertStr}
+use Rattle.slugs.specs.Trimming.{trim}
+use Rattle.slugs.specs.Keys.{keyTests}
+use Rattle.slugs.specs.Values.{valueTests, pair}
+use Rattle.cmdline.specs.Text.{Text, counted, bootGap}
+use Rattle.cmdline.specs.Insertion.{gateOf, insert, insertStr}
 use Rattle.cmdline.proofs.TextLaws.{joined-long, size-after-boot}
-use Rattle.cmdline.proofs.ValuesLaws.{pair-told}
-use Rattle.cmdline.proofs.PlanLaws.{hold-left}
+use Rattle.slugs.proofs.ValuesLaws.{pair-told}
+use Rattle.slugs.specs.Joining.{joined}
+use Rattle.slugs.proofs.RowsLaws.{hold-left}
 
 pub record Inserted (t u : Text) (key value : List ℕ) : Type 0 where
   -- the pair stands after what stood there, with a space between if there was text

@@ -16,13 +16,13 @@ use Rattle.answers.specs.declared.Gate.the-variants.{Open, Shut}
 use Rattle.answers.proofs.KeepingLaws.{row-keeps, kept, leb-grows}
 use Rattle.cmdline.specs.declared.DeviceId.{DeviceId}
 use Rattle.cmdline.specs.Limit.{allowed}
-use Rattle.cmdline.specs.Trimming.{trim}
-use Rattle.cmdline.specs.Bytes.{every, printable, equals}
-use Rattle.cmdline.specs.Keys.{keyTests}
-use Rattle.cmdline.specs.Values.{valueTests}
+use Rattle.slugs.specs.Trimming.{trim}
+use Rattle.slugs.specs.Bytes.{every, printable, equals}
+use Rattle.slugs.specs.Keys.{keyTests}
+use Rattle.slugs.specs.Values.{valueTests, pair}
 use Rattle.cmdline.specs.Text.{Text, counted, bootGap, initGap, empty}
-use Rattle.cmdline.specs.Insertion.{Plan, gateOf, answerOf, settled, after, pair, insert, insertStr, insertInitArgs}
-use Rattle.cmdline.specs.Lists.{listed, listPre, insertMultiple}
+use Rattle.cmdline.specs.Insertion.{Plan, gateOf, answerOf, settled, after, insert, insertStr, insertInitArgs, insertMultiple}
+use Rattle.slugs.specs.Lists.{listed, listPre}
 use Rattle.cmdline.specs.Device.{deviceText, addDevice}
 use Rattle.cmdline.specs.Making.{new, parted, tryFrom}
 use Rattle.cmdline.specs.Writing.{writeGate, writtenOf, bytesOf}

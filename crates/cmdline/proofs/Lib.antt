@@ -1,17 +1,10 @@
-pub mod ListLaws
-pub mod BytesLaws
-pub mod TrimmingLaws
-pub mod ValuesLaws
-pub mod StoredLaws
 pub mod TextLaws
 pub mod PlanLaws
+pub mod WritingLaws
 pub mod HeldLaws
-pub mod ListsLaws
-pub mod SplittingLaws
 pub mod DigitsLaws
 pub mod DeviceFits
 pub mod DeviceLaws
-pub mod WritingLaws
 pub mod MakingLaws
 pub mod LargerCapacity
 pub mod NothingLost
@@ -20,7 +13,7 @@ pub mod InsertedPair
 pub mod HeldTexts
 pub mod ZeroLaws
 pub mod ZerosStay
-pub mod Outcomes
 pub mod DigitsReadBack
 pub mod EqualLines
 pub mod CasesHold
+pub mod Outcomes

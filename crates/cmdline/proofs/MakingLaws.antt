@@ -16,12 +16,12 @@ use Rattle.cmdline.specs.declared.Cmdline.{Cmdline}
 use Rattle.cmdline.specs.declared.Reply.{Reply}
 use Rattle.cmdline.specs.Limit.{limit, allowed}
 use Rattle.cmdline.specs.Text.{sizeOf, counted}
-use Rattle.cmdline.specs.Trimming.{trim}
-use Rattle.cmdline.specs.Splitting.{splitAt, bootPart, initPart}
+use Rattle.slugs.specs.Trimming.{trim}
+use Rattle.slugs.specs.Splitting.{splitAt, bootPart, initPart}
 use Rattle.cmdline.specs.Making.{new, parted, tryFrom}
-use Rattle.cmdline.specs.Stored.{Stored}
+use Rattle.slugs.specs.Stored.{Stored}
 use Rattle.cmdline.specs.Held.{blankLine, clampedLine, holding, settledReply, madeOf}
-use Rattle.cmdline.proofs.BytesLaws.{both-left, both-right}
+use Rattle.slugs.proofs.BytesLaws.{both-left, both-right}
 use Rattle.cmdline.proofs.TextLaws.{size-boot, size-init, size-clipped}
 use Rattle.cmdline.proofs.PlanLaws.{asked-where}
 use Rattle.cmdline.proofs.HeldLaws.{settles}

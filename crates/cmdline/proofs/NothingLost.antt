@@ -8,13 +8,13 @@ use lib.ListN.{length, length-append}
 use Rattle.answers.specs.declared.Gate.{Gate}
 use Rattle.answers.specs.declared.Gate.the-variants.{Open, Shut}
 use Rattle.cmdline.specs.declared.DeviceId.{DeviceId}
-use Rattle.cmdline.specs.Trimming.{trim}
-use Rattle.cmdline.specs.Text.{Text, joined, spaceAfter}
-use Rattle.cmdline.specs.Insertion.{Plan, gateOf, settled, insert, insertStr, insertInitArgs}
-use Rattle.cmdline.specs.Lists.{insertMultiple}
+use Rattle.slugs.specs.Trimming.{trim}
+use Rattle.cmdline.specs.Text.{Text}
+use Rattle.cmdline.specs.Insertion.{Plan, gateOf, settled, insert, insertStr, insertInitArgs, insertMultiple}
 use Rattle.cmdline.specs.Device.{addDevice}
 use Rattle.cmdline.specs.Growing.{Begins, Extends}
 use Rattle.cmdline.specs.Calls
+use Rattle.slugs.specs.Joining.{joined, spaceAfter}
 
 begins-same : (a : List ℕ) → Begins a a
 begins-same a = record { rest = []; whole = sym (append-nil a) }

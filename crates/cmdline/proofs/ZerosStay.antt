@@ -4,8 +4,7 @@
 use mathlib.Core.Path.{_≡_, subst⁻¹}
 use Rattle.cmdline.specs.declared.Cmdline.{Cmdline}
 use Rattle.cmdline.specs.declared.Reply.{Reply}
-use Rattle.cmdline.specs.Insertion.{Plan, insert, insertStr, insertInitArgs}
-use Rattle.cmdline.specs.Lists.{insertMultiple}
+use Rattle.cmdline.specs.Insertion.{Plan, insert, insertStr, insertInitArgs, insertMultiple}
 use Rattle.cmdline.specs.Device.{addDevice}
 use Rattle.cmdline.specs.Making.{new, tryFrom}
 use Rattle.answers.specs.Tests.{AllHold}

@@ -10,8 +10,7 @@ use Rattle.cmdline.specs.declared.Written.{Written}
 use Rattle.cmdline.specs.declared.Written.the-variants as written
 use Rattle.cmdline.specs.declared.DeviceId.{DeviceId}
 use Rattle.cmdline.specs.Text.{Text, empty}
-use Rattle.cmdline.specs.Insertion.{Plan, gateOf, answerOf, settled, insert, insertStr, insertInitArgs}
-use Rattle.cmdline.specs.Lists.{insertMultiple}
+use Rattle.cmdline.specs.Insertion.{Plan, gateOf, answerOf, settled, insert, insertStr, insertInitArgs, insertMultiple}
 use Rattle.cmdline.specs.Device.{addDevice}
 use Rattle.cmdline.specs.Making.{new, tryFrom}
 use Rattle.cmdline.specs.Writing.{writeGate, writtenOf, bytesOf, sameLine}

@@ -6,11 +6,11 @@ use lib.Dec.{eqb}
 use Rattle.answers.specs.declared.Refusal.the-variants as refusal
 use Rattle.cmdline.specs.declared.Answer.{Answer}
 use Rattle.cmdline.specs.declared.Answer.the-variants.{Accepted, Refused}
-use Rattle.cmdline.specs.Bytes.{space, quote, dash, equals}
-use Rattle.cmdline.specs.Text.{separator}
+use Rattle.slugs.specs.Bytes.{space, quote, dash, equals}
 use Rattle.cmdline.specs.Insertion.{answerNumber}
 use Rattle.cmdline.specs.Writing.{sameBytes}
 use Rattle.cmdline.specs.Calls.{Making, makes-new, makes-from, Call, inserts, inserts-str, inserts-init-args, Said, answered, wrote, compared, run}
+use Rattle.slugs.specs.Splitting.{separator}
 
 -- a line made and called at a capacity; what the last of them answers, and the texts that are left
 pub record Case : Type 0 where

@@ -1,17 +1,10 @@
 pub mod Limit
-pub mod Bytes
-pub mod Trimming
-pub mod Keys
-pub mod Values
 pub mod Text
 pub mod Insertion
-pub mod Lists
 pub mod Digits
 pub mod Device
-pub mod Splitting
 pub mod Making
 pub mod Writing
-pub mod Stored
 pub mod Held
 pub mod ZeroPast
 pub mod Growing
