@@ -55,10 +55,13 @@ unfolding placeOf
 placed field h =
     sym (place-sums field headerStart sizes (let m = many in omega arith)) ∙ ap (λ (l : List ℕ). getD l field 0) tested
 
--- the sizes sum to 123
+-- the sizes sum to 123: where the header ends, by the same test
 pub sum-123 : total sizes ≡ 123
-unfolding total sizes
-sum-123 = refl
+unfolding placeOf protocolPlaces
+sum-123 =
+    let end = placed 39 (omega arith) in
+    let m = many in
+    ap total (sym (take-all 39 sizes (omega arith))) ∙ omega arith
 
 -- the places of the fields that a load uses
 pub at-setup-sects : placeOf 0 ≡ setupSects

@@ -17,12 +17,12 @@ use Rattle.cmdline.specs.declared.Cmdline.{Cmdline}
 use Rattle.cmdline.specs.declared.Reply.{Reply}
 use Rattle.cmdline.specs.declared.DeviceId.{DeviceId}
 use Rattle.cmdline.specs.declared.DeviceId.the-variants.{Nothing, Number}
-use Rattle.cmdline.specs.Bytes.{colon}
+use Rattle.slugs.specs.Bytes.{colon}
 use Rattle.cmdline.specs.Digits.{decimal, hexadecimal}
 use Rattle.cmdline.specs.Insertion.{insertStr}
 use Rattle.cmdline.specs.Device.{sizeText, idText, prefix, at-hex, frontText, deviceText, addDevice}
 use Rattle.cmdline.specs.Held.{textOf, holding, settledReply, replyOf}
-use Rattle.cmdline.specs.Stored.{Stored}
+use Rattle.slugs.specs.Stored.{Stored}
 use Rattle.cmdline.proofs.DeviceFits.{decimal-few}
 
 -- ---- a size

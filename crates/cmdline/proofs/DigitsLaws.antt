@@ -12,7 +12,7 @@ use borrow.Author.Tests.{lt-ltb, le-ltb, ltb-false}
 use Rattle.answers.specs.Pick.{pick}
 use Rattle.answers.proofs.PickLaws.{pick-with}
 use Rattle.cmdline.specs.Digits.{digit, digitsBefore, digits}
-use Rattle.cmdline.proofs.ListLaws.{part-end}
+use Rattle.slugs.proofs.ListLaws.{part-end}
 
 pow-one : (b : ℕ) → b ^ 1 ≡ b
 pow-one b = pow-suc b 0 ∙ rw (pow-zero, one-mul)

@@ -17,18 +17,20 @@ use Rattle.answers.proofs.TestsLaws.{open-all}
 use Rattle.cmdline.specs.declared.Cmdline.{Cmdline}
 use Rattle.cmdline.specs.declared.Reply.{Reply}
 use Rattle.cmdline.specs.Limit.{limit}
-use Rattle.cmdline.specs.Bytes.{printable, every}
-use Rattle.cmdline.specs.Trimming.{trim}
-use Rattle.cmdline.specs.Text.{Text, counted, sizeOf, bootGap, initGap, bootRoom, initRoom, spaceAfter, joined}
+use Rattle.slugs.specs.Bytes.{printable, every}
+use Rattle.slugs.specs.Trimming.{trim}
+use Rattle.cmdline.specs.Text.{Text, counted, sizeOf, bootGap, initGap, bootRoom, initRoom}
 use Rattle.cmdline.specs.Insertion.{Plan, answerOf, settled, after, withBoot, withInit, insertStr, insertInitArgs}
 use Rattle.cmdline.specs.declared.Written.the-variants as written
 use Rattle.cmdline.specs.Writing.{whole, textTests, textGate, writeGate, writtenOf, bytesOf}
-use Rattle.cmdline.specs.Stored.{Stored}
+use Rattle.slugs.specs.Stored.{Stored}
 use Rattle.cmdline.specs.Held.{textOf, holding, clampedLine, settledReply, replyOf, WrittenAs}
-use Rattle.cmdline.proofs.ListLaws.{sets-own, sets-same}
+use Rattle.slugs.proofs.ListLaws.{sets-own, sets-same}
 use Rattle.cmdline.proofs.TextLaws.{size-boot, init-asked, joined-long, room-clipped}
 use Rattle.cmdline.proofs.WritingLaws.{whole-size}
-use Rattle.cmdline.proofs.PlanLaws.{all-append, settled-as, asked-where, hold-left, hold-right, room-left}
+use Rattle.cmdline.proofs.PlanLaws.{settled-as, asked-where, room-left}
+use Rattle.slugs.specs.Joining.{spaceAfter, joined}
+use Rattle.slugs.proofs.RowsLaws.{all-append, hold-left, hold-right}
 
 -- a call that is settled by a gate, where the new line matters only if every test holds
 pub settles : (old new : Cmdline) (ts : List Test) (g : Gate) (next : Cmdline) {r : Reply} → r ≡ settledReply g old next → g ≡ askedAll Open ts

@@ -16,12 +16,12 @@ use Rattle.cmdline.specs.declared.Cmdline.{Cmdline}
 use Rattle.cmdline.specs.declared.Reply.{Reply}
 use Rattle.cmdline.specs.Limit.{limit, allowed}
 use Rattle.cmdline.specs.Text.{sizeOf, counted}
-use Rattle.cmdline.specs.Trimming.{trim}
-use Rattle.cmdline.specs.Splitting.{splitAt, bootPart, initPart}
+use Rattle.slugs.specs.Trimming.{trim}
+use Rattle.slugs.specs.Splitting.{splitAt, bootPart, initPart}
 use Rattle.cmdline.specs.Making.{new, parted, tryFrom}
-use Rattle.cmdline.specs.Stored.{Stored}
+use Rattle.slugs.specs.Stored.{Stored}
 use Rattle.cmdline.specs.Held.{blankLine, clampedLine, holding, settledReply, madeOf}
-use Rattle.cmdline.proofs.BytesLaws.{both-right}
+use Rattle.slugs.proofs.BytesLaws.{both-left, both-right}
 use Rattle.cmdline.proofs.TextLaws.{size-boot, size-init, size-clipped}
 use Rattle.cmdline.proofs.PlanLaws.{asked-where}
 use Rattle.cmdline.proofs.HeldLaws.{settles}
@@ -29,6 +29,19 @@ use Rattle.cmdline.proofs.HeldLaws.{settles}
 pub allowed-most : (c : ℕ) → allowed c ≡ true → c ≤ limit
 unfolding allowed
 allowed-most c e = leb-true c limit (both-right (leb 1 c) (leb c limit) e)
+
+pub allowed-least : (c : ℕ) → allowed c ≡ true → 1 ≤ c
+unfolding allowed
+allowed-least c e = leb-true 1 c (both-left (leb 1 c) (leb c limit) e)
+
+-- a line that is made has a capacity within the limit
+pub new-most : (c : ℕ) → AllHold (new c .tests) → new c .text .capacity ≤ limit
+unfolding new
+new-most c hold = allowed-most c (hold .0)
+
+pub from-most : (s : List ℕ) (c : ℕ) → AllHold (tryFrom s c .tests) → tryFrom s c .text .capacity ≤ limit
+unfolding tryFrom
+from-most s c hold = allowed-most c (hold .0)
 
 -- an empty line
 pub new-reply : (c : ℕ) {a : Bool} {g : Gate} {x y : Cmdline} {r : Reply} → a ≡ allowed c → g ≡ asked Open a refusal.InvalidCapacity → x ≡ blankLine 0

@@ -1,4 +1,4 @@
--- Laws of rows of tests, and of what stands after a call.
+-- Laws of what a call asks, and of what stands after it.
 use mathlib.Core.Path.{_≡_, refl, sym, ap, _∙_}
 use mathlib.Core.Bool.{Bool, true}
 use mathlib.Core.List.{List, [], _∷_, _++_}
@@ -11,28 +11,11 @@ use Rattle.answers.specs.declared.Gate.{Gate}
 use Rattle.answers.specs.declared.Gate.the-variants.{Open, Shut}
 use Rattle.answers.proofs.TestsLaws.{open-all, shut-stays}
 use Prim.Native.Nat.{ℕ}
-use Rattle.cmdline.specs.Bytes.{printable, every}
-use Rattle.cmdline.specs.Trimming.{trim}
+use Rattle.slugs.specs.Bytes.{printable, every}
+use Rattle.slugs.specs.Trimming.{trim}
 use Rattle.cmdline.specs.Text.{Text, bootRoom}
-use Rattle.cmdline.specs.Insertion.{Plan, gateOf, settled, insertStr}
-
--- one row and then another
-pub all-append : (g : Gate) (ts us : List Test) → askedAll g (ts ++ us) ≡ askedAll (askedAll g ts) us
-all-append g [] us = refl
-all-append g (t ∷ ts) us = all-append (asked g (t .0) (t .1)) ts us
-
-pub hold-left : (ts us : List Test) → AllHold (ts ++ us) → AllHold ts
-hold-left [] us h = tt
-hold-left (t ∷ ts) us h = (h .0, hold-left ts us (h .1))
-
-pub hold-right : (ts us : List Test) → AllHold (ts ++ us) → AllHold us
-hold-right [] us h = h
-hold-right (t ∷ ts) us h = hold-right ts us (h .1)
-
--- what is told where the gate is open, and where it is shut
-pub by-gate : {P : Type 0} (g : Gate) → (g ≡ Open → P) → ((r : _) → g ≡ Shut r → P) → P
-by-gate Open open-case shut-case = open-case refl
-by-gate (Shut r) open-case shut-case = shut-case r refl
+use Rattle.cmdline.specs.Insertion.{settled, insertStr}
+use Rattle.slugs.proofs.RowsLaws.{all-append}
 
 -- the new matters only where the gate is open
 pub settled-as : {A : Type 0} (g : Gate) (old : A) {a b : A} → (g ≡ Open → a ≡ b) → settled g old a ≡ settled g old b

@@ -11,7 +11,8 @@ use borrow.Author.Tests.{le-leb, lt-leb, eqb-true}
 use Rattle.answers.specs.Pick.{pick}
 use Rattle.answers.proofs.PickLaws.{pick-with}
 use Rattle.cmdline.specs.Limit.{limit}
-use Rattle.cmdline.specs.Text.{sizeOf, bootGap, initGap, spaceAfter, joined}
+use Rattle.cmdline.specs.Text.{sizeOf, bootGap, initGap}
+use Rattle.slugs.specs.Joining.{spaceAfter, joined}
 
 -- ---- sizes
 

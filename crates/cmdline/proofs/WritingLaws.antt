@@ -15,11 +15,12 @@ use Rattle.answers.specs.declared.Refusal.{Refusal}
 use Rattle.answers.specs.declared.Refusal.the-variants as refusal
 use Rattle.answers.specs.declared.Gate.{Gate}
 use Rattle.answers.specs.declared.Gate.the-variants.{Open, Shut}
-use Rattle.cmdline.specs.Bytes.{has}
-use Rattle.cmdline.specs.Text.{Text, separator, sizeOf}
+use Rattle.slugs.specs.Bytes.{has}
+use Rattle.cmdline.specs.Text.{Text, sizeOf}
 use Rattle.cmdline.specs.Writing.{wholeOf, headed, textTests, sameBytes}
-use Rattle.cmdline.proofs.ListLaws.{here, gone}
-use Rattle.cmdline.proofs.BytesLaws.{has-append}
+use Rattle.slugs.proofs.ListLaws.{here, gone}
+use Rattle.slugs.proofs.BytesLaws.{has-append}
+use Rattle.slugs.specs.Splitting.{separator}
 
 -- ---- with init text and without
 

@@ -7,7 +7,7 @@ use Rattle.answers.specs.Pick.{pick}
 use Rattle.answers.specs.declared.Refusal.the-variants as refusal
 use Rattle.cmdline.specs.declared.DeviceId.{DeviceId}
 use Rattle.cmdline.specs.declared.DeviceId.the-variants.{Nothing, Number}
-use Rattle.cmdline.specs.Bytes.{colon}
+use Rattle.slugs.specs.Bytes.{colon}
 use Rattle.cmdline.specs.Digits.{decimal, hexadecimal}
 use Rattle.cmdline.specs.Text.{Text}
 use Rattle.cmdline.specs.Insertion.{Plan, after, insertStr}

@@ -1,5 +1,5 @@
 -- Numbers as digits.
-use Prim.Native.Nat.{ℕ, zero, suc, _+_, _*_, _/_, _%_}
+use Prim.Native.Nat.{ℕ, zero, suc, _+_, _-_, _*_, _/_, _%_}
 use mathlib.Core.List.{List, [], _∷_}
 use lib.Dec.{ltb}
 use Rattle.answers.specs.Pick.{pick}
@@ -23,3 +23,14 @@ decimal n = digits 10 n
 
 abbrev pub hexadecimal : ℕ → List ℕ
 hexadecimal n = digits 16 n
+
+-- ---- read back
+
+-- the value of a digit
+unfoldable pub valueOf : ℕ → ℕ
+valueOf d = pick (ltb d 58) (d - 48) (d - 87)
+
+-- the number that digits make after those that made n
+unfoldable pub readOn : ℕ → ℕ → List ℕ → ℕ
+readOn base n [] = n
+readOn base n (d ∷ ds) = readOn base (n * base + valueOf d) ds

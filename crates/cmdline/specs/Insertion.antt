@@ -11,11 +11,13 @@ use Rattle.answers.specs.declared.Gate.the-variants.{Open, Shut}
 use Rattle.answers.specs.Catalogue.{numberOf}
 use Rattle.cmdline.specs.declared.Answer.{Answer}
 use Rattle.cmdline.specs.declared.Answer.the-variants.{Accepted, Refused}
-use Rattle.cmdline.specs.Bytes.{equals, printable, every}
-use Rattle.cmdline.specs.Trimming.{trim}
-use Rattle.cmdline.specs.Keys.{keyTests}
-use Rattle.cmdline.specs.Values.{valueTests}
-use Rattle.cmdline.specs.Text.{Text, bootRoom, initRoom, joined}
+use Rattle.slugs.specs.Bytes.{equals, printable, every}
+use Rattle.slugs.specs.Trimming.{trim}
+use Rattle.slugs.specs.Keys.{keyTests}
+use Rattle.slugs.specs.Values.{valueTests, pair}
+use Rattle.slugs.specs.Joining.{joined}
+use Rattle.slugs.specs.Lists.{listPre, listed}
+use Rattle.cmdline.specs.Text.{Text, bootRoom, initRoom}
 
 -- what a call asks, in order, and the line where every test holds
 pub record Plan : Type 0 where
@@ -66,10 +68,10 @@ insertInitArgs t slug =
       text = withInit t (joined (t .init) (trim slug));
     }
 
--- a key, an equals sign and a value
-abbrev pub pair : List ℕ → List ℕ → List ℕ
-pair key value = key ++ (equals ∷ value)
-
 -- the key's tests, the value's, then the slug of key, equals sign and value
 unfoldable pub insert : Text → List ℕ → List ℕ → Plan
 insert t key value = after (keyTests key ++ valueTests value) (insertStr t (pair key value))
+
+-- the tests of the list, the key and the values, then the slug of the key, an equals sign and the values joined by commas
+unfoldable pub insertMultiple : Text → List ℕ → List ℕ → List ℕ → Plan
+insertMultiple t key values ends = after (listPre key values ends) (insertStr t (key ++ listed equals 0 ends values))

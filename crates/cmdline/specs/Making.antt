@@ -6,7 +6,7 @@ use Rattle.answers.specs.declared.Refusal.the-variants as refusal
 use Rattle.cmdline.specs.Limit.{allowed}
 use Rattle.cmdline.specs.Text.{Text, empty, counted}
 use Rattle.cmdline.specs.Insertion.{Plan}
-use Rattle.cmdline.specs.Splitting.{bootPart, initPart}
+use Rattle.slugs.specs.Splitting.{bootPart, initPart}
 
 -- a capacity that is allowed
 unfoldable pub new : ℕ → Plan

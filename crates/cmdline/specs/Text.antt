@@ -1,21 +1,16 @@
 -- The texts of a line, their counted size, and room.
 use Prim.Native.Nat.{ℕ, _+_}
 use mathlib.Core.Bool.{Bool}
-use mathlib.Core.List.{List, [], _∷_, _++_}
+use mathlib.Core.List.{List, []}
 use lib.Dec.{leb, eqb}
 use lib.ListN.{length}
 use Rattle.answers.specs.Pick.{pick}
-use Rattle.cmdline.specs.Bytes.{space, dash}
 
 -- a line, by its boot text, its init text and its capacity
 pub record Text : Type 0 where
   pub boot : List ℕ
   pub init : List ℕ
   pub capacity : ℕ
-
--- space, dash, dash, space: what stands between the boot text and the init text
-abbrev pub separator : List ℕ
-separator = space ∷ dash ∷ dash ∷ space ∷ []
 
 -- the counted size of a boot text of b bytes and an init text of i: boot + 1, and + 4 + init if init is not empty
 unfoldable pub sizeOf : ℕ → ℕ → ℕ
@@ -39,13 +34,6 @@ bootRoom t n = leb (counted t + bootGap (length (t .boot)) + n) (t .capacity)
 abbrev pub initRoom : Text → ℕ → Bool
 initRoom t n = leb (counted t + initGap (length (t .init)) + n) (t .capacity)
 
--- a space after a text of n bytes, unless it is empty
-unfoldable pub spaceAfter : ℕ → List ℕ
-spaceAfter n = pick (eqb n 0) [] (space ∷ [])
-
--- s put after a text
-abbrev pub joined : List ℕ → List ℕ → List ℕ
-joined text s = text ++ (spaceAfter (length text) ++ s)
-
+-- an empty line
 abbrev pub empty : ℕ → Text
 empty c = record { boot = []; init = []; capacity = c }

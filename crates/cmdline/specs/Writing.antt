@@ -13,8 +13,9 @@ use Rattle.answers.specs.declared.Gate.{Gate}
 use Rattle.answers.specs.declared.Gate.the-variants.{Open, Shut}
 use Rattle.cmdline.specs.declared.Written.{Written}
 use Rattle.cmdline.specs.declared.Written.the-variants as written
-use Rattle.cmdline.specs.Bytes.{has}
-use Rattle.cmdline.specs.Text.{Text, separator}
+use Rattle.slugs.specs.Bytes.{has}
+use Rattle.cmdline.specs.Text.{Text}
+use Rattle.slugs.specs.Splitting.{separator}
 
 -- the whole text, without its zero: boot, and the separator and init if init is not empty
 unfoldable pub wholeOf : List ℕ → List ℕ → List ℕ

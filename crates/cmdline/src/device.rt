@@ -3,14 +3,13 @@ ghost use mathlib.Core.Path.{_≡_};
 ghost use Prim.Native.Nat.{_≤_};
 ghost use lib.ListN.{length, take};
 ghost use Rattle.cmdline.specs.Device.{sizeText, frontText, idText, deviceText};
-ghost use Rattle.cmdline.specs.Stored.{Stored};
+ghost use Rattle.slugs.specs.Stored.{Stored};
 use crate::DeviceId;
-use crate::buffers;
+use slugs::buffers;
 use crate::digits;
 
 // A size in G, M or K by the largest that divides, else the bare number.
 fn put_size(d: &mut [u8], at: usize, size: u64) -> usize
-    requires { ⌜ at ≤ length (now d) ⌝ }
     ensures { λ r. ⌜ Stored (now (d .entry)) at (sizeText size) (now (d .exit)) r ⌝ }
 {
     if size % 0x4000_0000 == 0 {

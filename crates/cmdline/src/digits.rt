@@ -4,8 +4,8 @@ ghost use mathlib.Core.List.{[]};
 ghost use Prim.Native.Nat.{_≤_, _<_, _^_};
 ghost use lib.ListN.{length, drop};
 ghost use Rattle.cmdline.specs.Digits.{digit, digits};
-ghost use Rattle.cmdline.specs.Stored.{Stored};
-use crate::buffers;
+ghost use Rattle.slugs.specs.Stored.{Stored};
+use slugs::buffers;
 
 fn digit(n: u64) -> u8
     requires { ⌜ n < 16 ⌝ }
@@ -36,7 +36,7 @@ fn spell(d: &mut [u8; 20], base: u64, n: u64) -> usize
 
 // The digits of n, put from a place on; the place after them.
 pub fn put_number(d: &mut [u8], at: usize, base: u64, n: u64) -> usize
-    requires { ⌜ (at ≤ length (now d)) × (10 ≤ base) × (base ≤ 16) × (n < base ^ 20) ⌝ }
+    requires { ⌜ (10 ≤ base) × (base ≤ 16) × (n < base ^ 20) ⌝ }
     ensures { λ r. ⌜ Stored (now (d .entry)) at (digits base n) (now (d .exit)) r ⌝ }
 {
     let mut spelled = [0u8; 20];

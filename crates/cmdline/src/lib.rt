@@ -8,8 +8,7 @@
 //
 // A kernel command line: built word by word, read from a text, written with its zero, compared.
 ghost use mathlib.Core.Path.{_≡_};
-ghost use Rattle.cmdline.specs.Insertion.{insertStr, insertInitArgs, insert};
-ghost use Rattle.cmdline.specs.Lists.{insertMultiple};
+ghost use Rattle.cmdline.specs.Insertion.{insertStr, insertInitArgs, insert, insertMultiple};
 ghost use Rattle.cmdline.specs.Device.{addDevice};
 ghost use Rattle.cmdline.specs.Making.{new, tryFrom};
 ghost use Rattle.cmdline.specs.Writing.{textGate, sameLine};
@@ -18,17 +17,17 @@ use answers::Gate;
 use answers::Refusal;
 use fields::copying;
 use guest::GuestAddress;
+use slugs::buffers;
+use slugs::bytes;
+use slugs::keys;
+use slugs::lists;
+use slugs::splitting;
+use slugs::trimming;
+use slugs::values;
 
-mod buffers;
-mod bytes;
 mod device;
 mod digits;
-mod keys;
-mod lists;
 mod sizes;
-mod splitting;
-mod trimming;
-mod values;
 mod writing;
 
 // The greatest capacity, the closing zero counted, and the length of each buffer.

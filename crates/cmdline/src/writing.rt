@@ -6,8 +6,8 @@ ghost use lib.ListN.{length, getD};
 ghost use lib.Seq.{sets};
 ghost use Rattle.cmdline.specs.Limit.{limit};
 ghost use Rattle.cmdline.specs.Writing.{headed, wholeOf, gateOf, sameBytes, sameAnswer};
-use crate::buffers;
-use crate::bytes;
+use slugs::buffers;
+use slugs::bytes;
 use answers::Gate;
 use answers::Refusal;
 

@@ -18,7 +18,7 @@ use Rattle.answers.specs.declared.Refusal.the-variants.{SliceTooLong, InvalidCo
 use Rattle.answers.specs.declared.Gate.{Gate}
 use Rattle.answers.specs.declared.Gate.the-variants.{Open, Shut}
 use Rattle.answers.proofs.TestsLaws.{all-open, first-shut}
-use Rattle.cmdline.specs.Bytes.{has}
+use Rattle.slugs.specs.Bytes.{has}
 use Rattle.cmdline.specs.Held.{textOf, WrittenAs}
 use Rattle.cmdline.specs.Text.{Text}
 use Rattle.cmdline.specs.Writing.{headed, wholeOf, whole, textTests, textGate, writeGate, writtenOf, bytesOf}

@@ -14,7 +14,7 @@ use Rattle.answers.specs.declared.Refusal.the-variants.{NoBootArgsInserted, Nul
 use Rattle.answers.specs.declared.Gate.{Gate}
 use Rattle.answers.specs.declared.Gate.the-variants.{Open, Shut}
 use Rattle.answers.proofs.TestsLaws.{open-all, all-open, shut-first, first-shut}
-use Rattle.cmdline.specs.Bytes.{has}
+use Rattle.slugs.specs.Bytes.{has}
 use Rattle.cmdline.specs.Text.{Text}
 use Rattle.cmdline.specs.Writing.{headed, wholeOf, textTests, textGate}
 use Rattle.loader.specs.declared.Answer.{Answer}

@@ -3,8 +3,8 @@ use mathlib.Core.Path.{sym}
 use native.Mathlib.Omega.{arith}
 use lib.Seq.{length-take-le}
 use borrow.Author.Needs.{needs}
+use Rattle.slugs.proofs.StoredLaws.{stored-text}
 use Rattle.cmdline.proofs.DeviceLaws.{device-slug, device-zero}
-use Rattle.cmdline.proofs.StoredLaws.{stored-text}
 use Rattle.cmdline.proofs.Cmdline.add_virtio_mmio_device.Statement.{statement}
 use Rattle.cmdline.proofs.Cmdline.add_virtio_mmio_device.Tie as tie
 

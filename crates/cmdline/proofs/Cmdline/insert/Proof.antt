@@ -6,14 +6,14 @@ use lib.ListN.{length, length-append}
 use borrow.Author.Needs.{needs}
 use Rattle.answers.specs.Tests.{askedAll}
 use Rattle.answers.specs.declared.Gate.the-variants.{Open}
-use Rattle.cmdline.specs.Bytes.{equals}
-use Rattle.cmdline.specs.Insertion.{insert, pair}
-use Rattle.cmdline.specs.Keys.{keyTests}
+use Rattle.slugs.specs.Bytes.{equals}
+use Rattle.slugs.specs.Keys.{keyTests}
+use Rattle.slugs.specs.Values.{pair, valueTests}
+use Rattle.slugs.proofs.RowsLaws.{all-append}
+use Rattle.slugs.proofs.ValuesLaws.{pair-told}
+use Rattle.cmdline.specs.Insertion.{insert}
 use Rattle.cmdline.specs.Limit.{limit}
-use Rattle.cmdline.specs.Values.{valueTests}
 use Rattle.cmdline.proofs.HeldLaws.{slug-reply}
-use Rattle.cmdline.proofs.PlanLaws.{all-append}
-use Rattle.cmdline.proofs.ValuesLaws.{pair-told}
 use Rattle.cmdline.proofs.Cmdline.insert.Statement.{statement}
 use Rattle.cmdline.proofs.Cmdline.insert.Tie as tie
 

@@ -8,13 +8,14 @@ use borrow.Author.Needs.{needs}
 use Rattle.answers.specs.Tests.{Test, asked}
 use Rattle.answers.specs.declared.Gate.the-variants.{Open}
 use Rattle.answers.specs.declared.Refusal.the-variants.{BadList, MissingVal}
-use Rattle.cmdline.specs.Bytes.{equals}
-use Rattle.cmdline.specs.Keys.{keyTests}
+use Rattle.slugs.specs.Bytes.{equals}
+use Rattle.slugs.specs.Keys.{keyTests}
+use Rattle.slugs.specs.Lists.{goodList, listPre, listTests, listed}
+use Rattle.slugs.proofs.ListsLaws.{list-long, list-told}
+use Rattle.slugs.proofs.RowsLaws.{all-append}
+use Rattle.cmdline.specs.Insertion.{insertMultiple}
 use Rattle.cmdline.specs.Limit.{limit}
-use Rattle.cmdline.specs.Lists.{goodList, insertMultiple, listPre, listTests, listed}
 use Rattle.cmdline.proofs.HeldLaws.{slug-reply}
-use Rattle.cmdline.proofs.ListsLaws.{list-long, list-told}
-use Rattle.cmdline.proofs.PlanLaws.{all-append}
 use Rattle.cmdline.proofs.Cmdline.insert_multiple.Statement.{statement}
 use Rattle.cmdline.proofs.Cmdline.insert_multiple.Tie as tie
 

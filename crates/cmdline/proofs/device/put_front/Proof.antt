@@ -1,8 +1,7 @@
 -- `device::put_front`: one part after the other.
-use native.Mathlib.Omega.{arith}
 use borrow.Author.Needs.{needs}
+use Rattle.slugs.proofs.StoredLaws.{stored-as, then}
 use Rattle.cmdline.proofs.DeviceLaws.{front-parts}
-use Rattle.cmdline.proofs.StoredLaws.{stored-as, stored-within, then}
 use Rattle.cmdline.proofs.device.put_front.Statement.{statement}
 use Rattle.cmdline.proofs.device.put_front.Tie as tie
 
@@ -18,12 +17,12 @@ put-front-spec =
     (tie.spec
     (λ c. search needs)
     (λ c κs. search needs)
-    (λ c κs. stored-within (c .before .before .before .put .ensures))
+    (λ c κs. search needs)
     (λ c. search needs)
-    (λ c κs. stored-within (c .before .before .before .before .put-size .ensures))
-    (λ c κs. (stored-within (c .before .before .before .put2 .ensures), omega arith, omega arith, omega arith))
+    (λ c κs. search needs)
+    (λ c κs. search needs)
     (λ c. search needs)
-    (λ c κs. stored-within (c .before .before .before .before .put-number .ensures))
-    (λ c κs. (stored-within (c .before .before .before .put3 .ensures), omega arith, omega arith, omega arith))
+    (λ c κs. search needs)
+    (λ c κs. search needs)
     (λ c. search needs)
     returns)

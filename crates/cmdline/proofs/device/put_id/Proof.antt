@@ -1,9 +1,8 @@
 -- `device::put_id`: by cases, as the definition goes.
 use Prim.Native.Nat.{_<_, _^_}
-use native.Mathlib.Omega.{arith}
 use borrow.Author.Needs.{needs}
+use Rattle.slugs.proofs.StoredLaws.{then}
 use Rattle.cmdline.proofs.DeviceLaws.{id-none, id-number}
-use Rattle.cmdline.proofs.StoredLaws.{stored-within, then}
 use Rattle.cmdline.proofs.device.put_id.Statement.{statement}
 use Rattle.cmdline.proofs.device.put_id.Tie as tie
 
@@ -25,7 +24,7 @@ put-id-spec =
     (λ c. search needs)
     (λ c κs. search needs)
     (λ c. search needs)
-    (λ c κs. (stored-within (c .before .before .before .put .ensures), omega arith, omega arith, omega arith))
+    (λ c κs. search needs)
     returns
     (λ c. search needs)
     returns-2)

@@ -1,8 +1,8 @@
 -- `device::put_size`: the first unit that divides decides.
 use mathlib.Core.Path.{sym}
 use borrow.Author.Needs.{needs}
+use Rattle.slugs.proofs.StoredLaws.{stored-as, then}
 use Rattle.cmdline.proofs.DeviceLaws.{size-G, size-K, size-M, size-plain}
-use Rattle.cmdline.proofs.StoredLaws.{stored-as, stored-within, then}
 use Rattle.cmdline.proofs.device.put_size.Statement.{statement}
 use Rattle.cmdline.proofs.device.put_size.Tie as tie
 
@@ -29,17 +29,17 @@ put-size-spec =
     (tie.spec
     (λ c κs. search needs)
     (λ c. search needs)
-    (λ c κs. stored-within (c .before .before .before .before .put-number .ensures))
+    (λ c κs. search needs)
     (λ c. search needs)
     returns
     (λ c κs. search needs)
     (λ c. search needs)
-    (λ c κs. stored-within (c .before .before .before .before .put-number2 .ensures))
+    (λ c κs. search needs)
     (λ c. search needs)
     returns-2
     (λ c κs. search needs)
     (λ c. search needs)
-    (λ c κs. stored-within (c .before .before .before .before .put-number3 .ensures))
+    (λ c κs. search needs)
     (λ c. search needs)
     returns-3
     (λ c κs. search needs)

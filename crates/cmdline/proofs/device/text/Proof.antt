@@ -2,8 +2,8 @@
 use native.Mathlib.Omega.{arith}
 use lib.ListN.{length-append}
 use borrow.Author.Needs.{needs}
+use Rattle.slugs.proofs.StoredLaws.{stored-within, then}
 use Rattle.cmdline.proofs.DeviceFits.{front-few}
-use Rattle.cmdline.proofs.StoredLaws.{stored-within, then}
 use Rattle.cmdline.proofs.device.text.Statement.{statement}
 use Rattle.cmdline.proofs.device.text.Tie as tie
 

@@ -1,8 +1,8 @@
 -- `digits::put_number`: the digits are the array from the place of the first on.
 use mathlib.Core.Path.{_∙_}
 use borrow.Author.Needs.{needs}
+use Rattle.slugs.proofs.StoredLaws.{stored-as}
 use Rattle.cmdline.proofs.DigitsLaws.{part-of}
-use Rattle.cmdline.proofs.StoredLaws.{stored-as}
 use Rattle.cmdline.proofs.digits.put_number.Statement.{statement}
 use Rattle.cmdline.proofs.digits.put_number.Tie as tie
 

@@ -7,7 +7,7 @@ use lib.ListN.{drop, length, length-set}
 use borrow.Author.Needs.{needs}
 use Rattle.cmdline.specs.Digits.{digits, digitsBefore}
 use Rattle.cmdline.proofs.DigitsLaws.{digits-last, digits-turn, down, two-left}
-use Rattle.cmdline.proofs.ListLaws.{gone}
+use Rattle.slugs.proofs.ListLaws.{gone}
 use Rattle.cmdline.proofs.digits.spell.Statement.{statement}
 use Rattle.cmdline.proofs.digits.spell.Tie as tie
 

@@ -3,8 +3,8 @@ use mathlib.Core.List.{_++_, _∷_, [], append-assoc}
 use mathlib.Core.Path.{_∙_, ap, sym}
 use lib.Seq.{sets}
 use borrow.Author.Needs.{needs}
-use Rattle.cmdline.specs.Text.{separator}
-use Rattle.cmdline.proofs.StoredLaws.{stored-within, then}
+use Rattle.slugs.specs.Splitting.{separator}
+use Rattle.slugs.proofs.StoredLaws.{then}
 use Rattle.cmdline.proofs.WritingLaws.{whole-none, whole-some}
 use Rattle.cmdline.proofs.writing.write.Statement.{statement}
 use Rattle.cmdline.proofs.writing.write.Tie as tie
@@ -28,13 +28,13 @@ write-spec =
     (tie.spec
     (λ c κs. search needs)
     (λ c. search needs)
-    (λ c κs. stored-within (c .before .before .before .before .before .put .ensures))
+    (λ c κs. search needs)
     (λ c. search needs)
     returns
     (λ c. search needs)
-    (λ c κs. stored-within (c .before .before .before .before .before .put .ensures))
-    (λ c κs. stored-within (c .before .before .before .put3 .ensures))
+    (λ c κs. search needs)
+    (λ c κs. search needs)
     (λ c. search needs)
-    (λ c κs. stored-within (c .before .before .before .before .put4 .ensures))
+    (λ c κs. search needs)
     (λ c. search needs)
     returns-2)

@@ -1,0 +1,41 @@
+-- An accepted `insert` puts exactly key, equals sign and value after what stood there, with the separator as it is counted:
+-- `inserted-pair`. The same of the struct: `inserted-line` (file HeldTexts).
+use Prim.Native.Nat.{ℕ, _+_}
+use mathlib.Core.Path.{_≡_, refl, ap, _∙_}
+use mathlib.Core.List.{List, _++_}
+use native.Mathlib.Omega.{arith}
+use lib.ListN.{length}
+use Rattle.answers.specs.Tests.{AllHold}
+use Rattle.answers.specs.declared.Gate.the-variants.{Open}
+use Rattle.answers.proofs.TestsLaws.{open-all}
+use Rattle.slugs.specs.Trimming.{trim}
+use Rattle.slugs.specs.Keys.{keyTests}
+use Rattle.slugs.specs.Values.{valueTests, pair}
+use Rattle.cmdline.specs.Text.{Text, counted, bootGap}
+use Rattle.cmdline.specs.Insertion.{gateOf, insert, insertStr}
+use Rattle.cmdline.proofs.TextLaws.{joined-long, size-after-boot}
+use Rattle.slugs.proofs.ValuesLaws.{pair-told}
+use Rattle.slugs.specs.Joining.{joined}
+use Rattle.slugs.proofs.RowsLaws.{hold-left}
+
+pub record Inserted (t u : Text) (key value : List ℕ) : Type 0 where
+  -- the pair stands after what stood there, with a space between if there was text
+  pub boot : u .boot ≡ joined (t .boot) (pair key value)
+  pub init : u .init ≡ t .init
+  pub capacity : u .capacity ≡ t .capacity
+  -- and is counted as it stands
+  pub size : counted u ≡ counted t + bootGap (length (t .boot)) + length (pair key value)
+
+pub inserted-pair : (t : Text) (key value : List ℕ) → gateOf (insert t key value) ≡ Open → Inserted t (insert t key value .text) key value
+unfolding insert insertStr
+inserted-pair t key value accepted =
+    let hold = open-all (insert t key value .tests) accepted in
+    let kept = pair-told key value (hold-left (keyTests key ++ valueTests value) (insertStr t (pair key value) .tests) hold) .0 in
+    record {
+      boot = rw kept;
+      init = refl;
+      capacity = refl;
+      size =
+          rw (kept, joined-long (t .boot) (pair key value))
+          (size-after-boot (length (t .boot)) (length (t .init)) (bootGap (length (t .boot))) (length (pair key value)))
+    }

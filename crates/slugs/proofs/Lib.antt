@@ -1,0 +1,9 @@
+pub mod ListLaws
+pub mod BytesLaws
+pub mod TrimmingLaws
+pub mod RowsLaws
+pub mod ValuesLaws
+pub mod StoredLaws
+pub mod ListsLaws
+pub mod SplittingLaws
+pub mod Outcomes

@@ -1,0 +1,24 @@
+-- `values::ask`: the three tests, each the definition's own.
+use mathlib.Core.Path.{_∙_}
+use borrow.Author.Needs.{needs}
+use Rattle.slugs.specs.Values.{valueTests}
+use Rattle.slugs.proofs.values.ask.Statement.{statement}
+use Rattle.slugs.proofs.values.ask.Tie as tie
+
+returns : tie.Need-returns
+unfolding valueTests
+returns c =
+    c .require3 .ensures
+    ∙ rw (c .before .before .require2 .ensures, c .before .before .before .before .require .ensures, c .before .is-protected .ensures, c .before .before .before .contains-double-quotes .ensures, c .before .before .before .before .before .all-printable .ensures)
+
+pub ask-spec : {M : Type 1} → statement M
+ask-spec =
+    tie.close
+    (tie.spec
+    (λ c κs. search needs)
+    (λ c κs. search needs)
+    (λ c κs. search needs)
+    (λ c κs. search needs)
+    (λ c κs. search needs)
+    (λ c κs. search needs)
+    returns)

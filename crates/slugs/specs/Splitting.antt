@@ -1,0 +1,37 @@
+-- Where a whole line parts into boot text and init text.
+use Prim.Native.Nat.{ℕ, suc}
+use mathlib.Core.Bool.{Bool, true, false, not, _&&_}
+use mathlib.Core.List.{List, [], _∷_}
+use lib.Dec.{eqb}
+use lib.ListN.{take, drop}
+use Rattle.answers.specs.Pick.{pick}
+use Rattle.fields.specs.Tags.{tagAt}
+use Rattle.slugs.specs.Bytes.{space, quote, dash}
+use Rattle.slugs.specs.Trimming.{trim}
+
+-- space, dash, dash, space: what stands between the boot text and the init text
+abbrev pub separator : List ℕ
+separator = space ∷ dash ∷ dash ∷ space ∷ []
+
+-- whether the number of quotes is even, after one byte more
+unfoldable pub evenAfter : Bool → ℕ → Bool
+evenAfter even x = pick (eqb x quote) (not even) even
+
+-- a separator comes first, and the number of quotes before it is even
+unfoldable pub splits : Bool → List ℕ → Bool
+splits even s = pick even (tagAt separator s 0) false
+
+-- the place of the first such separator, or the length
+unfoldable pub splitFrom : Bool → List ℕ → ℕ
+splitFrom even [] = 0
+splitFrom even (x ∷ xs) = pick (splits even (x ∷ xs)) 0 (suc (splitFrom (evenAfter even x) xs))
+
+abbrev pub splitAt : List ℕ → ℕ
+splitAt s = splitFrom true s
+
+-- what lies before the separator and what lies after it, trimmed; where there is none the second is empty, since the place is the length
+abbrev pub bootPart : List ℕ → List ℕ
+bootPart s = trim (take (splitAt s) s)
+
+abbrev pub initPart : List ℕ → List ℕ
+initPart s = trim (drop 4 (drop (splitAt s) s))

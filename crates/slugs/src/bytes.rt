@@ -1,0 +1,52 @@
+// Tests of bytes.
+ghost use mathlib.Core.Path.{_≡_};
+ghost use Rattle.slugs.specs.Bytes.{blank, printable, every, has};
+
+// A tab, a line end, a space: what trimming takes.
+pub fn is_blank(byte: u8) -> bool
+    ensures { λ r. ⌜ r ≡ blank byte ⌝ }
+{
+    if byte == b' ' {
+        return true;
+    }
+    if byte < 9 {
+        return false;
+    }
+    byte <= 13
+}
+
+pub fn is_printable(byte: u8) -> bool
+    ensures { λ r. ⌜ r ≡ printable byte ⌝ }
+{
+    if byte < 32 {
+        return false;
+    }
+    byte <= 126
+}
+
+pub fn all_printable(s: &[u8]) -> bool
+    ensures { λ r. ⌜ r ≡ every printable (now (s .entry)) ⌝ }
+{
+    let mut i = 0;
+    while i < s.len() {
+        if !is_printable(s[i]) {
+            return false;
+        }
+        i += 1;
+    }
+    true
+}
+
+// Is the byte among those of s?
+pub fn has(s: &[u8], byte: u8) -> bool
+    ensures { λ r. ⌜ r ≡ has byte (now (s .entry)) ⌝ }
+{
+    let mut i = 0;
+    while i < s.len() {
+        if s[i] == byte {
+            return true;
+        }
+        i += 1;
+    }
+    false
+}

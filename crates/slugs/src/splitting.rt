@@ -1,0 +1,52 @@
+// Where a whole line parts into boot text and init text.
+ghost use mathlib.Core.Path.{_≡_};
+ghost use Prim.Native.Nat.{_≤_};
+ghost use lib.ListN.{length, drop};
+ghost use Rattle.slugs.specs.Splitting.{evenAfter, splits, splitAt};
+use fields::copying;
+use fields::tags;
+
+// The parity of the quotes after one byte more.
+fn even_after(even: bool, byte: u8) -> bool
+    ensures { λ r. ⌜ r ≡ evenAfter even byte ⌝ }
+{
+    if byte == b'"' {
+        return !even;
+    }
+    even
+}
+
+// A separator stands at the place, with an even number of quotes before it.
+fn splits(even: bool, s: &[u8], at: usize) -> bool
+    ensures { λ r. ⌜ r ≡ splits even (drop at (now (s .entry))) ⌝ }
+{
+    if even {
+        return tags::is_tag(s, at as u64, b" -- ");
+    }
+    false
+}
+
+// The place of the first such separator, or the length.
+pub fn split_at(s: &[u8]) -> usize
+    ensures { λ r. ⌜ (r ≡ splitAt (now (s .entry))) × (r ≤ length (now (s .entry))) ⌝ }
+{
+    let mut i = 0;
+    let mut even = true;
+    while i < s.len() {
+        if splits(even, s, i) {
+            return i;
+        }
+        even = even_after(even, s[i]);
+        i += 1;
+    }
+    i
+}
+
+// What lies after a separator at the place, or nothing.
+pub fn after(s: &[u8], at: usize) -> &[u8]
+    ensures { λ r. ⌜ now r ≡ drop 4 (drop at (now (s .entry))) ⌝ }
+{
+    let from = copying::lesser(at, s.len());
+    let start = from + copying::lesser(4, s.len() - from);
+    &s[start..]
+}
