@@ -1,14 +1,14 @@
 -- Laws of the setup header as it is read and returned.
-use Prim.Native.Nat.{ℕ, zero, suc, _+_, _-_, _≤_, min}
+use Prim.Native.Nat.{ℕ, zero, suc, _+_, _-_, min}
 use mathlib.Core.Path.{_≡_, refl, sym, _∙_, ap}
 use mathlib.Core.List.{List, [], _∷_}
 use native.Mathlib.Omega.{arith}
-use native.Mathlib.Decide.{decLe}
 use native.Mathlib.Nat.{add-zero, add-suc}
-use lib.ListN.{length, getD, set, drop, replicate, length-drop, drop-of-length-le}
+use lib.ListN.{length, getD, set, drop, replicate, length-drop}
 use lib.Seq.{sets, take-all, getD-drop}
 use borrow.Rule.Slice.PartMut.{midOf}
 use Rattle.fields.proofs.CopyingLaws.{sets-out}
+use Rattle.guest.proofs.PartLaws.{drop-clipped}
 use Rattle.bzimage.specs.SetupHeader.{headerSize, placeOf}
 use Rattle.bzimage.specs.Header.{bytesFrom, bytesOf, headerOf}
 use Rattle.bzimage.proofs.SetupHeaderLaws.{at-setup-sects, at-code32-start}
@@ -43,13 +43,6 @@ unfolding bytesFrom
 bytes-drop zero s p q = refl
 bytes-drop (suc n) s p q =
     rw (getD-drop p s q 0) (ap (λ (l : List ℕ). getD s (p + q) 0 ∷ l) (bytes-drop n s p (suc q) ∙ ap (bytesFrom n s) (add-suc p q)))
-
-drop-clipped : (p : ℕ) (s : List ℕ) {from : ℕ} → from ≡ min p (length s) → drop from s ≡ drop p s
-drop-clipped p s {from} e = split (decLe p (length s))
-  where
-    split : Dec (p ≤ length s) → drop from s ≡ drop p s
-    split (yes h) = ap (λ (k : ℕ). drop k s) (let same : from ≡ p = omega arith in same)
-    split (no h) = drop-of-length-le s {i = from} (omega arith) ∙ sym (drop-of-length-le s {i = p} (omega arith))
 
 -- zeros, with what the image has from a place on copied over them
 pub read-over : (n p : ℕ) (s : List ℕ) {from : ℕ} → from ≡ min p (length s)

@@ -6,11 +6,11 @@ use native.Mathlib.Omega.{arith}
 use native.Mathlib.Decide.{decLe, ℕ-discrete}
 use borrow.Author.Tests.{eq-eqb, ne-eqb}
 use lib.Dec.{eqb}
-use lib.ListN.{length, set, getD, length-set}
+use lib.ListN.{length, set, getD, length-set, List·getD-eq-default}
 use lib.Seq.{sets, set-append-left, getD-set-same, getD-set-other}
 use Rattle.answers.specs.Pick.{pick}
 use Rattle.fields.proofs.CopyingLaws.{sets-out}
-use Rattle.guest.specs.Stream.{Poke, pour, streamAt, lastAt, Inside, none, goes}
+use Rattle.guest.specs.Stream.{Poke, pour, streamAt, lastAt, Inside, none, goes, Stands}
 
 -- pouring keeps the length
 pub length-pour : (ps : List Poke) (guest : List ℕ) → length (pour ps guest) ≡ length guest
@@ -96,3 +96,32 @@ last-inside (v ∷ vs) x a b le lt = split (decLe (suc x) a) (λ h. last-inside 
         let e : x ≡ a = omega arith in
         last-outside vs (suc x) a (pick (eqb x a) v b) (λ le' lt'. h le')
         ∙ rw (eq-eqb x a e) (ap (λ k. getD (v ∷ vs) k 0) (let z : 0 ≡ a - x = omega arith in z))
+
+-- bytes poured where they have room, if there are any, stand there
+module _ (bytes : List ℕ) (address : ℕ) (guest : List ℕ) (room : 0 < length bytes → address + length bytes ≤ length guest) where
+  abbrev poured : List ℕ
+  poured = pour (streamAt address bytes) guest
+
+  at-byte : (i : ℕ) → i < length bytes → getD poured (address + i) 0 ≡ getD bytes i 0
+  at-byte i h =
+      let fits = room (omega arith) in
+      last-decides (streamAt address bytes) guest (address + i) (omega arith)
+      ∙ last-inside bytes address (address + i) (getD guest (address + i) 0) (omega arith) (omega arith)
+      ∙ ap (λ k. getD bytes k 0) (let same : address + i - address ≡ i = omega arith in same)
+
+  elsewhere : (a : ℕ) → (address ≤ a → a < address + length bytes → ⊥) → getD poured a 0 ≡ getD guest a 0
+  elsewhere a out = split (decLe (suc a) (length guest))
+    where
+      split : Dec (suc a ≤ length guest) → getD poured a 0 ≡ getD guest a 0
+      split (yes h) = last-decides (streamAt address bytes) guest a h ∙ last-outside bytes address a (getD guest a 0) out
+      split (no h) =
+          let len = length-pour (streamAt address bytes) guest in
+          List·getD-eq-default poured 0 {n = a} (omega arith) ∙ sym (List·getD-eq-default guest 0 {n = a} (omega arith))
+
+  pub poured-stands : {after : List ℕ} → after ≡ poured → Stands bytes address guest after
+  poured-stands e =
+      record {
+        as-long = ap length e ∙ length-pour (streamAt address bytes) guest;
+        covered = λ i h. ap (λ l. getD l (address + i) 0) e ∙ at-byte i h;
+        untouched = λ a out. ap (λ l. getD l a 0) e ∙ elsewhere a out;
+      }

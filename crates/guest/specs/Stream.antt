@@ -1,8 +1,9 @@
 -- What a load writes, as a stream: bytes with their addresses, in the order in which they are written; and guest memory after it.
+use mathlib.Core.Path.{_≡_}
 use mathlib.Core.List.{List, [], _∷_}
-use Prim.Native.Nat.{ℕ, suc, _<_}
+use Prim.Native.Nat.{ℕ, suc, _+_, _≤_, _<_}
 use lib.Dec.{eqb}
-use lib.ListN.{set, take, drop}
+use lib.ListN.{length, getD, set, take, drop}
 use Rattle.answers.specs.Pick.{pick}
 
 -- an address, and the byte that goes there
@@ -32,3 +33,9 @@ lastAt (p ∷ ps) address byte = lastAt ps address (pick (eqb (p .0) address) (p
 pub data Inside (size : ℕ) : List Poke → Type 0 where
   none : Inside size []
   goes : {p : Poke} {ps : List Poke} → p .0 < size → Inside size ps → Inside size (p ∷ ps)
+
+-- bytes stand in guest memory from an address on, and nothing else has changed
+pub record Stands (bytes : List ℕ) (address : ℕ) (guest after : List ℕ) : Type 0 where
+  pub as-long : length after ≡ length guest
+  pub covered : (i : ℕ) → i < length bytes → getD after (address + i) 0 ≡ getD bytes i 0
+  pub untouched : (a : ℕ) → (address ≤ a → a < address + length bytes → ⊥) → getD after a 0 ≡ getD guest a 0
