@@ -67,7 +67,7 @@ fn new(line: Cmdline, call: &[u8]) -> Turn {
     }
 }
 
-fn insert_str(line: Cmdline, call: &[u8]) -> Turn {
+fn insert_slug(line: Cmdline, call: &[u8], is_init: bool) -> Turn {
     let from = 3;
     let to = from + short(call, 1);
     if call.len() < to {
@@ -76,26 +76,19 @@ fn insert_str(line: Cmdline, call: &[u8]) -> Turn {
             used: 0,
         };
     }
-    let line = after(line.insert_str(&call[from..to]));
+    let reply = slug_reply(line, &call[from..to], is_init);
+    let line = after(reply);
     Turn {
         line: line,
         used: to,
     }
 }
 
-fn insert_init_args(line: Cmdline, call: &[u8]) -> Turn {
-    let from = 3;
-    let to = from + short(call, 1);
-    if call.len() < to {
-        return Turn {
-            line: line,
-            used: 0,
-        };
-    }
-    let line = after(line.insert_init_args(&call[from..to]));
-    Turn {
-        line: line,
-        used: to,
+fn slug_reply(line: Cmdline, slug: &[u8], is_init: bool) -> Reply {
+    if is_init {
+        line.insert_init_args(slug)
+    } else {
+        line.insert_str(slug)
     }
 }
 
@@ -281,8 +274,8 @@ fn one_call(line: Cmdline, kept: Cmdline, call: &[u8]) -> Turn {
     let which = numbers::byte_at(call, 0, 0);
     match which {
         1 => new(line, call),
-        2 => insert_str(line, call),
-        3 => insert_init_args(line, call),
+        2 => insert_slug(line, call, false),
+        3 => insert_slug(line, call, true),
         4 => insert(line, call),
         5 => insert_multiple(line, call),
         6 => add_device(line, call),

@@ -99,7 +99,8 @@ fn middle(body: &[u8], room: usize) -> usize {
     26 + image
 }
 
-pub fn elf(body: &[u8], guest: &mut [u8]) {
+// An ELF load, or a load of a bzImage, by the body's kind.
+pub fn load(body: &[u8], guest: &mut [u8]) {
     let at = middle(body, guest.len());
     if at < 26 {
         telling::malformed(b"the lengths of image and guest");
@@ -114,25 +115,11 @@ pub fn elf(body: &[u8], guest: &mut [u8]) {
     }
     let start = 0;
     let from = 26;
-    load_elf(body, &body[from..at], &body[at..], &mut guest[start..n]);
-}
-
-pub fn bzimage(body: &[u8], guest: &mut [u8]) {
-    let at = middle(body, guest.len());
-    if at < 26 {
-        telling::malformed(b"the lengths of image and guest");
-        return;
+    if numbers::byte_at(body, 0, 0) == 1 {
+        load_elf(body, &body[from..at], &body[at..], &mut guest[start..n]);
+    } else {
+        load_bzimage(body, &body[from..at], &body[at..], &mut guest[start..n]);
     }
-    if body.len() < at {
-        return;
-    }
-    let n = body.len() - at;
-    if guest.len() < n {
-        return;
-    }
-    let start = 0;
-    let from = 26;
-    load_bzimage(body, &body[from..at], &body[at..], &mut guest[start..n]);
 }
 
 pub fn note(body: &[u8]) {

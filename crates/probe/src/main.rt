@@ -23,9 +23,8 @@ fn guest_room() -> [u8; 1048576] {
 fn answer(body: &[u8], guest: &mut [u8]) {
     let kind = numbers::byte_at(body, 0, 0);
     match kind {
-        1 => loads::elf(body, guest),
+        1 | 3 => loads::load(body, guest),
         2 => loads::note(body),
-        3 => loads::bzimage(body, guest),
         4 => lines::calls(body),
         5 => lines::loading(body, guest),
         _ => telling::malformed(b"no such kind"),
