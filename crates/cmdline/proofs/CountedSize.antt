@@ -1,35 +1,33 @@
 -- The counted size never exceeds the capacity, and the capacity never the limit: every accepted call leaves a line that fits, so does every
 -- making that is accepted, and so does any run of calls. `never-exceeds` is the theorem; `accepted-fits` and its like say it of each call.
 use Prim.Native.Nat.{ℕ, _+_, _≤_}
-use mathlib.Core.Path.{_≡_, refl, sym, ap, _∙_}
-use mathlib.Core.Bool.{Bool, true, false, not}
+use mathlib.Core.Path.{_≡_, refl}
+use mathlib.Core.Bool.{not}
 use mathlib.Core.List.{List, [], _∷_, _++_}
 use native.Mathlib.Omega.{arith}
-use lib.Dec.{leb, eqb}
+use lib.Dec.{eqb}
 use lib.ListN.{length}
 use borrow.Author.Tests.{leb-true}
 use Rattle.answers.specs.Pick.{pick}
-use Rattle.answers.specs.Tests.{Test, askedAll, AllHold}
+use Rattle.answers.specs.Tests.{Test, AllHold}
 use Rattle.answers.specs.declared.Refusal.the-variants as refusal
 use Rattle.answers.specs.declared.Gate.{Gate}
 use Rattle.answers.specs.declared.Gate.the-variants.{Open, Shut}
 use Rattle.answers.proofs.TestsLaws.{open-all}
 use Rattle.cmdline.specs.declared.Answer.the-variants.{Accepted}
 use Rattle.cmdline.specs.declared.DeviceId.{DeviceId}
-use Rattle.cmdline.specs.Limit.{limit, allowed}
 use Rattle.slugs.specs.Trimming.{trim}
 use Rattle.slugs.specs.Bytes.{equals}
 use Rattle.slugs.specs.Keys.{keyTests}
 use Rattle.slugs.specs.Values.{valueTests, pair}
 use Rattle.cmdline.specs.Text.{Text, sizeOf, counted, bootGap, initGap}
-use Rattle.cmdline.specs.Insertion.{Plan, gateOf, answerOf, settled, after, insert, insertStr, insertInitArgs, insertMultiple}
+use Rattle.cmdline.specs.Insertion.{Plan, gateOf, answerOf, settled, insert, insertStr, insertInitArgs, insertMultiple}
 use Rattle.slugs.specs.Lists.{listed, listPre}
 use Rattle.cmdline.specs.Device.{deviceText, addDevice}
 use Rattle.cmdline.specs.Making.{new, parted, tryFrom}
 use Rattle.cmdline.specs.Calls
 use Rattle.cmdline.proofs.TextLaws.{joined-long, size-after-boot, size-after-init}
-use Rattle.cmdline.proofs.MakingLaws.{allowed-most, allowed-least}
-use Rattle.slugs.specs.Joining.{joined}
+use Rattle.cmdline.proofs.MakingLaws.{allowed-least}
 use Rattle.slugs.proofs.RowsLaws.{hold-right}
 
 -- a line fits: its counted size is within its capacity

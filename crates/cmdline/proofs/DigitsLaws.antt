@@ -1,17 +1,16 @@
 -- Laws of digits, one place after the other.
-use Prim.Native.Nat.{ℕ, zero, suc, _+_, _-_, _*_, _/_, _%_, _^_, _≤_, _<_}
-use mathlib.Core.Path.{_≡_, refl, sym, ap, _∙_, subst}
-use mathlib.Core.Bool.{Bool, true, false}
-use mathlib.Core.List.{List, [], _∷_, _++_}
+use Prim.Native.Nat.{ℕ, zero, suc, _+_, _-_, _/_, _%_, _^_, _≤_, _<_}
+use mathlib.Core.Path.{_≡_, sym, _∙_, subst}
+use mathlib.Core.List.{List, _∷_}
 use native.Mathlib.Nat.{pow-zero, pow-suc, one-mul, div-lt-iff-lt-mul, not-suc-le-zero}
 use native.Mathlib.Omega.{arith}
 use lib.Dec.{ltb}
-use lib.ListN.{length, take, drop, getD, set, length-set}
+use lib.ListN.{length, take, drop, set, length-set}
 use lib.Seq.{drop-cons, getD-set-same, drop-set-lt}
 use borrow.Author.Tests.{lt-ltb, le-ltb, ltb-false}
 use Rattle.answers.specs.Pick.{pick}
 use Rattle.answers.proofs.PickLaws.{pick-with}
-use Rattle.cmdline.specs.Digits.{digit, digitsBefore, digits}
+use Rattle.cmdline.specs.Digits.{digit, digitsBefore}
 use Rattle.slugs.proofs.ListLaws.{part-end}
 
 pow-one : (b : ℕ) → b ^ 1 ≡ b
@@ -66,10 +65,10 @@ unfolding digitsBefore
 digits-few zero b n later k z l p = omega arith
 digits-few (suc f) b n later k z l p =
     let more : (j : ℕ) → 1 ≤ j → n / b < b ^ j → length (digitsBefore f b (n / b) (digit (n % b) ∷ later)) ≤ j + length (digit (n % b) ∷ later) =
-        λ j a q. digits-few f b (n / b) (digit (n % b) ∷ later) j z a q in
+    λ j a q. digits-few f b (n / b) (digit (n % b) ∷ later) j z a q in
     pick-with (λ (ds : List ℕ). length ds ≤ k + length later) (ltb n b) (λ e. omega arith)
     (λ e.
-      let h = ltb-false n b e in
-      let w = two-left b n k l h p in
-      let r = more (k - 1) (omega arith) (down b n k z l p) in
-      omega arith)
+    let h = ltb-false n b e in
+    let w = two-left b n k l h p in
+    let r = more (k - 1) (omega arith) (down b n k z l p) in
+    omega arith)

@@ -1,11 +1,11 @@
 -- Laws of the struct that holds a line: what a call that is worked out by its numbers and buffers answers.
 use Prim.Native.Nat.{ℕ, _+_, _≤_, min}
-use mathlib.Core.Path.{_≡_, refl, sym, ap, _∙_}
-use mathlib.Core.Bool.{Bool, true, false}
+use mathlib.Core.Path.{_≡_, sym, ap, _∙_}
+use mathlib.Core.Bool.{Bool, true}
 use mathlib.Core.List.{List, [], _∷_, _++_}
 use native.Mathlib.Omega.{arith}
 use lib.Dec.{leb}
-use lib.ListN.{length, take, length-append, replicate}
+use lib.ListN.{length, length-append}
 use lib.Seq.{sets, length-take-le}
 use borrow.Author.Tests.{leb-true}
 use Rattle.answers.specs.Tests.{Test, asked, askedAll, AllHold}
@@ -20,7 +20,7 @@ use Rattle.cmdline.specs.Limit.{limit}
 use Rattle.slugs.specs.Bytes.{printable, every}
 use Rattle.slugs.specs.Trimming.{trim}
 use Rattle.cmdline.specs.Text.{Text, counted, sizeOf, bootGap, initGap, bootRoom, initRoom}
-use Rattle.cmdline.specs.Insertion.{Plan, answerOf, settled, after, withBoot, withInit, insertStr, insertInitArgs}
+use Rattle.cmdline.specs.Insertion.{answerOf, after, withBoot, withInit, insertStr, insertInitArgs}
 use Rattle.cmdline.specs.declared.Written.the-variants as written
 use Rattle.cmdline.specs.Writing.{whole, textTests, textGate, writeGate, writtenOf, bytesOf}
 use Rattle.slugs.specs.Stored.{Stored}
@@ -67,9 +67,9 @@ module _ (l : Cmdline) (lb : length (l .boot) ≡ limit) (li : length (l .init) 
       let top : length (joined (t .boot) s) ≤ limit = omega arith in
       let e : n ≡ length (t .boot) = en ∙ sym boot-long in
       let bytes : d ≡ sets (l .boot) (min (l .boots) limit) (spaceAfter (length (t .boot)) ++ s) =
-          w .bytes ∙ ap (λ (k : ℕ). sets (l .boot) n (spaceAfter k ++ s)) e ∙ ap (λ (k : ℕ). sets (l .boot) k (spaceAfter (length (t .boot)) ++ s)) en in
+      w .bytes ∙ ap (λ (k : ℕ). sets (l .boot) n (spaceAfter k ++ s)) e ∙ ap (λ (k : ℕ). sets (l .boot) k (spaceAfter (length (t .boot)) ++ s)) en in
       let text : sets (l .boot) 0 (joined (t .boot) s) ≡ d =
-          sets-own (l .boot) (spaceAfter (length (t .boot)) ++ s) (min (l .boots) limit) (omega arith) ∙ sym bytes in
+      sets-own (l .boot) (spaceAfter (length (t .boot)) ++ s) (min (l .boots) limit) (omega arith) ∙ sym bytes in
       let gap = ap (λ (k : ℕ). length (spaceAfter k ++ s)) e in
       let whole = length-append (t .boot) (spaceAfter (length (t .boot)) ++ s) in
       let place = w .place in
@@ -88,9 +88,9 @@ module _ (l : Cmdline) (lb : length (l .boot) ≡ limit) (li : length (l .init) 
       let top : length (joined (t .init) s) ≤ limit = omega arith in
       let e : n ≡ length (t .init) = en ∙ sym init-long in
       let bytes : d ≡ sets (l .init) (min (l .inits) limit) (spaceAfter (length (t .init)) ++ s) =
-          w .bytes ∙ ap (λ (k : ℕ). sets (l .init) n (spaceAfter k ++ s)) e ∙ ap (λ (k : ℕ). sets (l .init) k (spaceAfter (length (t .init)) ++ s)) en in
+      w .bytes ∙ ap (λ (k : ℕ). sets (l .init) n (spaceAfter k ++ s)) e ∙ ap (λ (k : ℕ). sets (l .init) k (spaceAfter (length (t .init)) ++ s)) en in
       let text : sets (l .init) 0 (joined (t .init) s) ≡ d =
-          sets-own (l .init) (spaceAfter (length (t .init)) ++ s) (min (l .inits) limit) (omega arith) ∙ sym bytes in
+      sets-own (l .init) (spaceAfter (length (t .init)) ++ s) (min (l .inits) limit) (omega arith) ∙ sym bytes in
       let gap = ap (λ (k : ℕ). length (spaceAfter k ++ s)) e in
       let whole = length-append (t .init) (spaceAfter (length (t .init)) ++ s) in
       let place = w .place in
@@ -130,16 +130,16 @@ module _ (l : Cmdline) (lb : length (l .boot) ≡ limit) (li : length (l .init) 
   slug-reply pre w told {b} {g} {h} {d} {k} {n} {r} {next} first count room second en st made answer =
       let size = size-boot (min (l .boots) limit) (min (l .inits) limit) in
       let asks : AllHold pre → b ≡ bootRoom (textOf l) (length w) =
-          λ hold.
-            room
-            ∙ room-clipped (sizeOf (min (l .boots) limit) (min (l .inits) limit) + bootGap (min (l .boots) limit)) (length w) (min (l .capacity) limit) (count hold) (omega arith) (omega arith)
-            ∙ boot-asked (length w) in
+      λ hold.
+      room
+      ∙ room-clipped (sizeOf (min (l .boots) limit) (min (l .inits) limit) + bootGap (min (l .boots) limit)) (length w) (min (l .capacity) limit) (count hold) (omega arith) (omega arith)
+      ∙ boot-asked (length w) in
       settles l (holding l (insertStr (textOf l) w .text)) (pre ++ insertStr (textOf l) w .tests) h next answer
       (second ∙ ap (λ (x : Gate). asked x b refusal.TooLarge) first ∙ asked-where pre refusal.TooLarge asks ∙ room-left pre (textOf l) w told)
       (λ hold.
-        let last = hold-right pre (insertStr (textOf l) w .tests) hold in
-        let f = told (hold-left pre (insertStr (textOf l) w .tests) hold) in
-        rw (f .0) (made ∙ boot-held w d n r en (rw (f .0) at (last .1 .0)) st))
+      let last = hold-right pre (insertStr (textOf l) w .tests) hold in
+      let f = told (hold-left pre (insertStr (textOf l) w .tests) hold) in
+      rw (f .0) (made ∙ boot-held w d n r en (rw (f .0) at (last .1 .0)) st))
 
 -- ---- the written line
 
@@ -163,7 +163,7 @@ module _ (l : Cmdline) (lb : length (l .boot) ≡ limit) (li : length (l .init) 
         let gate : Shut r ≡ writeGate (textOf l) (length out) = sym e ∙ write-gate in
         record {
           answer = ap (λ (x : Gate). writtenOf x (textOf l)) gate;
-          bytes = ap (λ (x : Gate). sets out 0 (bytesOf x (textOf l))) gate
+          bytes = ap (λ (x : Gate). sets out 0 (bytesOf x (textOf l))) gate;
         }
 
     pub written-whole : (left : List ℕ) → h ≡ Open → left ≡ sets out 0 (whole (textOf l) ++ (0 ∷ [])) → WrittenAs l out (written.Bytes k) left
@@ -171,5 +171,5 @@ module _ (l : Cmdline) (lb : length (l .boot) ≡ limit) (li : length (l .init) 
         let gate : Open ≡ writeGate (textOf l) (length out) = sym e ∙ write-gate in
         record {
           answer = ap written.Bytes count ∙ ap (λ (x : Gate). writtenOf x (textOf l)) gate;
-          bytes = b ∙ ap (λ (x : Gate). sets out 0 (bytesOf x (textOf l))) gate
+          bytes = b ∙ ap (λ (x : Gate). sets out 0 (bytesOf x (textOf l))) gate;
         }

@@ -2,22 +2,21 @@
 -- plan where it is accepted, and the line's own where it is refused; so they fit the limit, and the theorems on sequences of calls speak of
 -- the functions. A line whose calls are worked out over its struct is a line whose calls are worked out over its texts.
 use Prim.Native.Nat.{ℕ, _+_, _≤_, min}
-use mathlib.Core.Path.{_≡_, refl, sym, ap, _∙_, subst⁻¹}
-use mathlib.Core.List.{List, [], _++_}
+use mathlib.Core.Path.{_≡_, refl, ap, _∙_, subst⁻¹}
+use mathlib.Core.List.{List}
 use native.Mathlib.Omega.{arith}
-use lib.ListN.{length, take, drop, replicate, length-replicate}
+use lib.ListN.{length, take, drop, length-replicate}
 use lib.Seq.{sets, sets-eq, length-sets, take-append-seam}
-use Rattle.answers.specs.Tests.{askedAll, AllHold}
+use Rattle.answers.specs.Tests.{AllHold}
 use Rattle.answers.specs.declared.Gate.{Gate}
 use Rattle.answers.specs.declared.Gate.the-variants.{Open, Shut}
 use Rattle.answers.proofs.TestsLaws.{open-all}
 use Rattle.cmdline.specs.declared.Cmdline.{Cmdline}
-use Rattle.cmdline.specs.declared.Reply.{Reply}
 use Rattle.cmdline.specs.declared.Answer.the-variants.{Accepted}
 use Rattle.cmdline.specs.Limit.{limit}
-use Rattle.cmdline.specs.Text.{Text, counted, empty}
+use Rattle.cmdline.specs.Text.{Text, empty}
 use Rattle.cmdline.specs.Insertion.{Plan, gateOf, answerOf, settled, insert}
-use Rattle.cmdline.specs.Held.{textOf, holding, blankLine, settledReply, replyOf, madeOf}
+use Rattle.cmdline.specs.Held.{textOf, holding, blankLine, replyOf, madeOf}
 use Rattle.cmdline.specs.ZeroPast.{Buffers}
 use Rattle.cmdline.specs.Growing.{Extends}
 use Rattle.cmdline.proofs.TextLaws.{size-boot, size-init}

@@ -1,7 +1,7 @@
 -- Never smaller for more room: calls on a new line, its making counted among them, of which none was refused for room, say the same and
 -- leave the same texts under any larger allowed capacity. `larger-capacity` is the theorem.
 use Prim.Native.Nat.{ℕ, _+_, _≤_}
-use mathlib.Core.Path.{_≡_, refl, sym, ap, _∙_}
+use mathlib.Core.Path.{_≡_, refl, ap}
 use mathlib.Core.Bool.{Bool, true, false, not}
 use mathlib.Core.List.{List, [], _∷_, _++_}
 use native.Mathlib.Omega.{arith}
@@ -9,19 +9,18 @@ use lib.Dec.{leb, eqb}
 use lib.ListN.{length}
 use Rattle.answers.specs.Pick.{pick}
 use Rattle.answers.specs.Tests.{Test, asked, askedAll}
-use Rattle.answers.specs.Keeping.{Keeps, ShutBy, shut-by, Widens, end, stays, grows}
+use Rattle.answers.specs.Keeping.{ShutBy, shut-by, Widens, end, stays, grows}
 use Rattle.answers.specs.declared.Refusal.the-variants as refusal
 use Rattle.answers.specs.declared.Gate.{Gate}
 use Rattle.answers.specs.declared.Gate.the-variants.{Open, Shut}
 use Rattle.answers.proofs.KeepingLaws.{row-keeps, kept, leb-grows}
-use Rattle.cmdline.specs.declared.DeviceId.{DeviceId}
 use Rattle.cmdline.specs.Limit.{allowed}
 use Rattle.slugs.specs.Trimming.{trim}
-use Rattle.slugs.specs.Bytes.{every, printable, equals}
+use Rattle.slugs.specs.Bytes.{equals}
 use Rattle.slugs.specs.Keys.{keyTests}
 use Rattle.slugs.specs.Values.{valueTests, pair}
-use Rattle.cmdline.specs.Text.{Text, counted, bootGap, initGap, empty}
-use Rattle.cmdline.specs.Insertion.{Plan, gateOf, answerOf, settled, after, insert, insertStr, insertInitArgs, insertMultiple}
+use Rattle.cmdline.specs.Text.{Text, counted, bootGap, initGap}
+use Rattle.cmdline.specs.Insertion.{Plan, gateOf, answerOf, settled, insert, insertStr, insertInitArgs, insertMultiple}
 use Rattle.slugs.specs.Lists.{listed, listPre}
 use Rattle.cmdline.specs.Device.{deviceText, addDevice}
 use Rattle.cmdline.specs.Making.{new, parted, tryFrom}
@@ -88,20 +87,24 @@ module _ (c : ℕ) (t : Text) (more : t .capacity ≤ c) where
   same-call : (k : Calls.Call) → (Calls.RefusedForRoom (Calls.calling k t .said) → ⊥)
       → (Calls.calling k (under c t) ≡ same-step c (Calls.calling k t)) × (Calls.calling k t .text .capacity ≡ t .capacity)
   unfolding Calls.calling insert insertStr insertInitArgs insertMultiple addDevice
-  same-call (Calls.inserts key value) none =
-      (same-planned c t (insert t key value) (insert (under c t) key value) (widens-after (keyTests key ++ valueTests value) (str-widens (pair key value))) refl none,
-        same-capacity c t (insert t key value) (insert t key value) refl)
-  same-call (Calls.inserts-multiple key values ends) none =
-      (same-planned c t (insertMultiple t key values ends) (insertMultiple (under c t) key values ends) (widens-after (listPre key values ends) (str-widens (key ++ listed equals 0 ends values))) refl none,
-        same-capacity c t (insertMultiple t key values ends) (insertMultiple t key values ends) refl)
+  same-call (Calls.inserts key value) none = (
+    same-planned c t (insert t key value) (insert (under c t) key value) (widens-after (keyTests key ++ valueTests value) (str-widens (pair key value))) refl none,
+    same-capacity c t (insert t key value) (insert t key value) refl,
+  )
+  same-call (Calls.inserts-multiple key values ends) none = (
+    same-planned c t (insertMultiple t key values ends) (insertMultiple (under c t) key values ends) (widens-after (listPre key values ends) (str-widens (key ++ listed equals 0 ends values))) refl none,
+    same-capacity c t (insertMultiple t key values ends) (insertMultiple t key values ends) refl,
+  )
   same-call (Calls.inserts-str slug) none =
       (same-planned c t (insertStr t slug) (insertStr (under c t) slug) (str-widens slug) refl none, same-capacity c t (insertStr t slug) (insertStr t slug) refl)
-  same-call (Calls.inserts-init-args slug) none =
-      (same-planned c t (insertInitArgs t slug) (insertInitArgs (under c t) slug) (init-widens slug) refl none,
-        same-capacity c t (insertInitArgs t slug) (insertInitArgs t slug) refl)
-  same-call (Calls.adds-device size base irq id) none =
-      (same-planned c t (addDevice t size base irq id) (addDevice (under c t) size base irq id) (widens-after ((not (eqb size 0), refusal.MmioSize) ∷ []) (str-widens (deviceText size base irq id))) refl none,
-        same-capacity c t (addDevice t size base irq id) (addDevice t size base irq id) refl)
+  same-call (Calls.inserts-init-args slug) none = (
+    same-planned c t (insertInitArgs t slug) (insertInitArgs (under c t) slug) (init-widens slug) refl none,
+    same-capacity c t (insertInitArgs t slug) (insertInitArgs t slug) refl,
+  )
+  same-call (Calls.adds-device size base irq id) none = (
+    same-planned c t (addDevice t size base irq id) (addDevice (under c t) size base irq id) (widens-after ((not (eqb size 0), refusal.MmioSize) ∷ []) (str-widens (deviceText size base irq id))) refl none,
+    same-capacity c t (addDevice t size base irq id) (addDevice t size base irq id) refl,
+  )
   same-call (Calls.writes room) none =
       (ap (λ (s : Calls.Said). record { said = s; text = under c t }) (same-written c t (writeGate t room)), refl)
   same-call (Calls.compares other) none = (refl, refl)

@@ -1,7 +1,7 @@
 -- The struct that holds a line: the texts that it holds, and the struct that holds given texts.
 use Prim.Native.Nat.{ℕ, min}
 use mathlib.Core.Path.{_≡_}
-use mathlib.Core.List.{List, []}
+use mathlib.Core.List.{List}
 use lib.ListN.{length, take, replicate}
 use lib.Seq.{sets}
 use Rattle.answers.specs.declared.Gate.{Gate}
@@ -19,7 +19,7 @@ textOf l =
     record {
       boot = take (min (l .boots) limit) (l .boot);
       init = take (min (l .inits) limit) (l .init);
-      capacity = min (l .capacity) limit
+      capacity = min (l .capacity) limit;
     }
 
 -- the line that holds these texts, each at the start of its buffer, the rest of the buffer as it was
@@ -30,7 +30,7 @@ holding l t =
       boots = length (t .boot);
       init = sets (l .init) 0 (t .init);
       inits = length (t .init);
-      capacity = t .capacity
+      capacity = t .capacity;
     }
 
 -- the line of two buffers and their numbers, each number no more than the limit

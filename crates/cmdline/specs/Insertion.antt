@@ -1,10 +1,8 @@
 -- What an insertion asks, in order, and the texts that it leaves.
 use Prim.Native.Nat.{ℕ}
-use mathlib.Core.Bool.{Bool}
 use mathlib.Core.List.{List, [], _∷_, _++_}
 use lib.ListN.{length}
 use Rattle.answers.specs.Tests.{Test, askedAll}
-use Rattle.answers.specs.declared.Refusal.{Refusal}
 use Rattle.answers.specs.declared.Refusal.the-variants as refusal
 use Rattle.answers.specs.declared.Gate.{Gate}
 use Rattle.answers.specs.declared.Gate.the-variants.{Open, Shut}
@@ -57,7 +55,7 @@ unfoldable pub insertStr : Text → List ℕ → Plan
 insertStr t slug =
     record {
       tests = (every printable (trim slug), refusal.InvalidAscii) ∷ (bootRoom t (length (trim slug)), refusal.TooLarge) ∷ [];
-      text = withBoot t (joined (t .boot) (trim slug))
+      text = withBoot t (joined (t .boot) (trim slug));
     }
 
 -- the same for the init text
@@ -65,7 +63,7 @@ unfoldable pub insertInitArgs : Text → List ℕ → Plan
 insertInitArgs t slug =
     record {
       tests = (every printable (trim slug), refusal.InvalidAscii) ∷ (initRoom t (length (trim slug)), refusal.TooLarge) ∷ [];
-      text = withInit t (joined (t .init) (trim slug))
+      text = withInit t (joined (t .init) (trim slug));
     }
 
 -- the key's tests, the value's, then the slug of key, equals sign and value

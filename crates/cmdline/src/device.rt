@@ -1,12 +1,11 @@
 // The text of a virtio device.
-ghost use mathlib.Core.Path.{_≡_};
 ghost use Prim.Native.Nat.{_≤_};
-ghost use lib.ListN.{length, take};
+ghost use lib.ListN.{length};
 ghost use Rattle.cmdline.specs.Device.{sizeText, frontText, idText, deviceText};
 ghost use Rattle.slugs.specs.Stored.{Stored};
 use crate::DeviceId;
-use slugs::buffers;
 use crate::digits;
+use slugs::buffers;
 
 // A size in G, M or K by the largest that divides, else the bare number.
 fn put_size(d: &mut [u8], at: usize, size: u64) -> usize

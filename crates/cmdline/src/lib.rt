@@ -84,13 +84,25 @@ fn settled(gate: Gate, before: Cmdline, after: Cmdline) -> Reply
     ensures { λ r. ⌜ r ≡ settledReply gate before after ⌝ }
 {
     match gate {
-        Gate::Shut(refusal) => Reply { answer: Answer::Refused(refusal), line: before },
-        Gate::Open => Reply { answer: Answer::Accepted, line: after },
+        Gate::Shut(refusal) => Reply {
+            answer: Answer::Refused(refusal),
+            line: before,
+        },
+        Gate::Open => Reply {
+            answer: Answer::Accepted,
+            line: after,
+        },
     }
 }
 
 // The line of two buffers and their numbers, each number no more than the limit.
-fn clamped(boot: [u8; LIMIT], boots: usize, init: [u8; LIMIT], inits: usize, capacity: usize) -> Cmdline
+fn clamped(
+    boot: [u8; LIMIT],
+    boots: usize,
+    init: [u8; LIMIT],
+    inits: usize,
+    capacity: usize,
+) -> Cmdline
     ensures { λ r. ⌜ r ≡ clampedLine boot boots init inits capacity ⌝ }
 {
     Cmdline {
@@ -102,7 +114,7 @@ fn clamped(boot: [u8; LIMIT], boots: usize, init: [u8; LIMIT], inits: usize, cap
     }
 }
 
-// What the written answer says, given room: 50, 51, or that it is good.
+// What is asked of the text of a line before room is.
 fn text_gate(line: Cmdline) -> Gate
     ensures { λ r. ⌜ r ≡ textGate (textOf line) ⌝ }
 {
@@ -118,7 +130,11 @@ impl Cmdline {
     pub fn new(capacity: usize) -> Reply
         ensures { λ r. ⌜ r ≡ madeOf (new capacity) ⌝ }
     {
-        let gate = answers::require(Gate::Open, sizes::is_capacity(capacity), Refusal::InvalidCapacity);
+        let gate = answers::require(
+            Gate::Open,
+            sizes::is_capacity(capacity),
+            Refusal::InvalidCapacity,
+        );
         settled(gate, blank_line(0), blank_line(capacity))
     }
 
@@ -128,12 +144,21 @@ impl Cmdline {
     {
         let gate = keys::ask(Gate::Open, key);
         let gate = values::ask(gate, value);
-        let room = sizes::boot_room(self.boots, self.inits, self.capacity, sizes::sum(sizes::sum(key.len(), 1), value.len()));
+        let room = sizes::boot_room(
+            self.boots,
+            self.inits,
+            self.capacity,
+            sizes::sum(sizes::sum(key.len(), 1), value.len()),
+        );
         let gate = answers::require(gate, room, Refusal::TooLarge);
         let mut boot = self.boot;
         let init = self.init;
         let n = buffers::put_pair(&mut boot, copying::lesser(self.boots, LIMIT), key, value);
-        settled(gate, self, clamped(boot, n, init, self.inits, self.capacity))
+        settled(
+            gate,
+            self,
+            clamped(boot, n, init, self.inits, self.capacity),
+        )
     }
 
     // A key, an equals sign and values joined by commas, after the boot text. The values stand one after the other in a buffer, and the
@@ -141,16 +166,35 @@ impl Cmdline {
     pub fn insert_multiple(self, key: &[u8], values: &[u8], ends: &[usize]) -> Reply
         ensures { λ r. ⌜ r ≡ replyOf self (insertMultiple (textOf self) (now (key .entry)) (now (values .entry)) (now (ends .entry))) ⌝ }
     {
-        let gate = answers::require(Gate::Open, lists::is_list(ends, values.len()), Refusal::BadList);
+        let gate = answers::require(
+            Gate::Open,
+            lists::is_list(ends, values.len()),
+            Refusal::BadList,
+        );
         let gate = keys::ask(gate, key);
         let gate = answers::require(gate, 0 < ends.len(), Refusal::MissingVal);
         let gate = lists::ask(gate, values, ends);
-        let room = sizes::boot_room(self.boots, self.inits, self.capacity, sizes::sum(sizes::sum(key.len(), ends.len()), values.len()));
+        let room = sizes::boot_room(
+            self.boots,
+            self.inits,
+            self.capacity,
+            sizes::sum(sizes::sum(key.len(), ends.len()), values.len()),
+        );
         let gate = answers::require(gate, room, Refusal::TooLarge);
         let mut boot = self.boot;
         let init = self.init;
-        let n = lists::put_list(&mut boot, copying::lesser(self.boots, LIMIT), key, values, ends);
-        settled(gate, self, clamped(boot, n, init, self.inits, self.capacity))
+        let n = lists::put_list(
+            &mut boot,
+            copying::lesser(self.boots, LIMIT),
+            key,
+            values,
+            ends,
+        );
+        settled(
+            gate,
+            self,
+            clamped(boot, n, init, self.inits, self.capacity),
+        )
     }
 
     // A slug, after the boot text.
@@ -159,11 +203,19 @@ impl Cmdline {
     {
         let s = trimming::trimmed(slug);
         let gate = answers::require(Gate::Open, bytes::all_printable(s), Refusal::InvalidAscii);
-        let gate = answers::require(gate, sizes::boot_room(self.boots, self.inits, self.capacity, s.len()), Refusal::TooLarge);
+        let gate = answers::require(
+            gate,
+            sizes::boot_room(self.boots, self.inits, self.capacity, s.len()),
+            Refusal::TooLarge,
+        );
         let mut boot = self.boot;
         let init = self.init;
         let n = buffers::put_after(&mut boot, copying::lesser(self.boots, LIMIT), s);
-        settled(gate, self, clamped(boot, n, init, self.inits, self.capacity))
+        settled(
+            gate,
+            self,
+            clamped(boot, n, init, self.inits, self.capacity),
+        )
     }
 
     // A slug, after the init text.
@@ -172,15 +224,29 @@ impl Cmdline {
     {
         let s = trimming::trimmed(slug);
         let gate = answers::require(Gate::Open, bytes::all_printable(s), Refusal::InvalidAscii);
-        let gate = answers::require(gate, sizes::init_room(self.boots, self.inits, self.capacity, s.len()), Refusal::TooLarge);
+        let gate = answers::require(
+            gate,
+            sizes::init_room(self.boots, self.inits, self.capacity, s.len()),
+            Refusal::TooLarge,
+        );
         let boot = self.boot;
         let mut init = self.init;
         let n = buffers::put_after(&mut init, copying::lesser(self.inits, LIMIT), s);
-        settled(gate, self, clamped(boot, self.boots, init, n, self.capacity))
+        settled(
+            gate,
+            self,
+            clamped(boot, self.boots, init, n, self.capacity),
+        )
     }
 
     // The text of a virtio device, after the boot text.
-    pub fn add_virtio_mmio_device(self, size: u64, baseaddr: GuestAddress, irq: u32, id: DeviceId) -> Reply
+    pub fn add_virtio_mmio_device(
+        self,
+        size: u64,
+        baseaddr: GuestAddress,
+        irq: u32,
+        id: DeviceId,
+    ) -> Reply
         ensures { λ r. ⌜ r ≡ replyOf self (addDevice (textOf self) size (baseaddr .0) irq id) ⌝ }
     {
         if size == 0 {
@@ -198,15 +264,27 @@ impl Cmdline {
         let at = splitting::split_at(raw);
         let before = trimming::trimmed(&raw[..at]);
         let after = trimming::trimmed(splitting::after(raw, at));
-        let gate = answers::require(Gate::Open, sizes::is_capacity(capacity), Refusal::InvalidCapacity);
+        let gate = answers::require(
+            Gate::Open,
+            sizes::is_capacity(capacity),
+            Refusal::InvalidCapacity,
+        );
         let boots = copying::lesser(before.len(), LIMIT);
         let inits = copying::lesser(after.len(), LIMIT);
-        let gate = answers::require(gate, sizes::counted(boots, inits) <= capacity, Refusal::InvalidCapacity);
+        let gate = answers::require(
+            gate,
+            sizes::counted(boots, inits) <= capacity,
+            Refusal::InvalidCapacity,
+        );
         let mut boot = [0u8; LIMIT];
         let mut init = [0u8; LIMIT];
         buffers::put(&mut boot, 0, before);
         buffers::put(&mut init, 0, after);
-        settled(gate, blank_line(0), clamped(boot, boots, init, inits, capacity))
+        settled(
+            gate,
+            blank_line(0),
+            clamped(boot, boots, init, inits, capacity),
+        )
     }
 
     // The text of the line and its closing zero, written to the start of out.
@@ -241,7 +319,12 @@ impl Cmdline {
         let init = self.init;
         let boot2 = other.boot;
         let init2 = other.init;
-        let same = writing::same_whole(&boot[..boots], &init[..inits], &boot2[..boots2], &init2[..inits2]);
+        let same = writing::same_whole(
+            &boot[..boots],
+            &init[..inits],
+            &boot2[..boots2],
+            &init2[..inits2],
+        );
         writing::same_answer(text_gate(self), text_gate(other), same)
     }
 }

@@ -63,7 +63,11 @@ pub fn boot_room(boots: usize, inits: usize, capacity: usize, n: usize) -> bool
 {
     let b = copying::lesser(boots, LIMIT);
     let i = copying::lesser(inits, LIMIT);
-    within(copying::lesser(capacity, LIMIT), counted(b, i) + boot_gap(b), n)
+    within(
+        copying::lesser(capacity, LIMIT),
+        counted(b, i) + boot_gap(b),
+        n,
+    )
 }
 
 // Is there room for n bytes more of init text?
@@ -72,5 +76,9 @@ pub fn init_room(boots: usize, inits: usize, capacity: usize, n: usize) -> bool
 {
     let b = copying::lesser(boots, LIMIT);
     let i = copying::lesser(inits, LIMIT);
-    within(copying::lesser(capacity, LIMIT), counted(b, i) + init_gap(i), n)
+    within(
+        copying::lesser(capacity, LIMIT),
+        counted(b, i) + init_gap(i),
+        n,
+    )
 }

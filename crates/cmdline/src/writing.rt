@@ -6,10 +6,10 @@ ghost use lib.ListN.{length, getD};
 ghost use lib.Seq.{sets};
 ghost use Rattle.cmdline.specs.Limit.{limit};
 ghost use Rattle.cmdline.specs.Writing.{headed, wholeOf, gateOf, sameBytes, sameAnswer};
-use slugs::buffers;
-use slugs::bytes;
 use answers::Gate;
 use answers::Refusal;
+use slugs::buffers;
+use slugs::bytes;
 
 // No init text, or boot text before it.
 fn is_headed(boots: usize, inits: usize) -> bool
@@ -25,7 +25,11 @@ fn is_headed(boots: usize, inits: usize) -> bool
 pub fn text_gate(boot: &[u8], init: &[u8]) -> Gate
     ensures { λ r. ⌜ r ≡ gateOf (now (boot .entry)) (now (init .entry)) ⌝ }
 {
-    let gate = answers::require(Gate::Open, is_headed(boot.len(), init.len()), Refusal::NoBootArgsInserted);
+    let gate = answers::require(
+        Gate::Open,
+        is_headed(boot.len(), init.len()),
+        Refusal::NoBootArgsInserted,
+    );
     let gate = answers::require(gate, !bytes::has(boot, 0), Refusal::NullTerminator);
     answers::require(gate, !bytes::has(init, 0), Refusal::NullTerminator)
 }

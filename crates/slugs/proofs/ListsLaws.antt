@@ -1,8 +1,8 @@
 -- Laws of a list of values: its tests, its parts, its text.
 use Prim.Native.Nat.{ℕ, _+_, _-_, _≤_, _<_, min}
-use mathlib.Core.Path.{_≡_, refl, sym, ap, _∙_}
-use mathlib.Core.Bool.{Bool, true, false, _&&_}
-use mathlib.Core.List.{List, [], _∷_, _++_, append-assoc, append-nil}
+use mathlib.Core.Path.{_≡_, refl, sym, _∙_}
+use mathlib.Core.Bool.{true, false}
+use mathlib.Core.List.{List, [], _∷_, _++_, append-nil}
 use native.Mathlib.Omega.{arith}
 use native.Mathlib.Decide.{decLe}
 use lib.Dec.{leb, ltb, eqb}
@@ -10,7 +10,7 @@ use lib.ListN.{length, take, drop, getD, length-append, length-drop, drop-of-len
 use lib.Seq.{take-all, take-nil, length-take-le}
 use borrow.Author.Tests.{eq-eqb, ne-eqb, le-leb, lt-leb, leb-true, eqb-true, ltb-true}
 use Rattle.answers.specs.Pick.{pick}
-use Rattle.answers.specs.Tests.{asked, askedAll, AllHold}
+use Rattle.answers.specs.Tests.{askedAll, AllHold}
 use Rattle.answers.specs.declared.Refusal.the-variants as refusal
 use Rattle.answers.specs.declared.Gate.{Gate}
 use Rattle.slugs.specs.Bytes.{equals, comma, blank, printable, every}
@@ -153,9 +153,10 @@ module _ (k s es : List ℕ) (hold : AllHold (listPre k s es)) where
 
   pub list-told : (trim (k ++ listed equals 0 es s) ≡ k ++ listed equals 0 es s) × (every printable (k ++ listed equals 0 es s) ≡ true)
   unfolding printable
-  list-told =
-      (list-kept k s es keys some (rest .1),
-        every-append printable k (listed equals 0 es s) (key-printable k keys) (listed-printable equals 0 es s refl (rest .1)))
+  list-told = (
+    list-kept k s es keys some (rest .1),
+    every-append printable k (listed equals 0 es s) (key-printable k keys) (listed-printable equals 0 es s refl (rest .1)),
+  )
 
   pub list-long : length (k ++ listed equals 0 es s) ≡ length k + length es + length s
   list-long =

@@ -6,7 +6,7 @@ use native.Mathlib.Omega.{arith}
 use native.Mathlib.Decide.{decLe}
 use lib.ListN.{length, take, drop, length-append}
 use lib.Seq.{sets, sets-eq, length-sets, take-append-seam}
-use borrow.Author.Tests.{eq-eqb, ne-eqb}
+use borrow.Author.Tests.{ne-eqb}
 use borrow.Rule.Slice.PartMut.{midOf, putMid}
 use Rattle.answers.specs.Pick.{pick}
 use Rattle.fields.proofs.CopyingLaws.{sets-out}
@@ -46,7 +46,7 @@ pub then : {d : List ℕ} {at : ℕ} {s left : List ℕ} {r : ℕ} {t last : Lis
 then {d} {at} {s} {left} {r} {t} {last} {end} a b =
     record {
       bytes = b .bytes ∙ split (decLe (at + length s) (length d)) ∙ ap (λ (l : List ℕ). sets l (at + length s) t) (a .bytes) ∙ sym (sets-append s t d at);
-      place = let n = length-append s t in let l = stored-long a in let p = a .place in let q = b .place in omega arith
+      place = let n = length-append s t in let l = stored-long a in let p = a .place in let q = b .place in omega arith;
     }
   where
     split : Dec (at + length s ≤ length d) → sets left r t ≡ sets left (at + length s) t

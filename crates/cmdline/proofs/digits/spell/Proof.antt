@@ -21,19 +21,24 @@ loop-again : tie.Need-loop-again Inv-loop μ-loop
 loop-again c =
     let args = c .before .before .before .args in
     let at-turn = c .before .before .loop in
-    let left = two-left (args .base) (at-turn .x) (at-turn .i) (at-turn .inv .0) (c .before .loop-test .taken) (at-turn .inv .3) in
-    (omega arith, omega arith, length-set (at-turn .d) (at-turn .i - 1) (c .digit .result) ∙ at-turn .inv .2,
-    down (args .base) (at-turn .x) (at-turn .i) (omega arith) (at-turn .inv .0) (at-turn .inv .3),
-    digits-turn (at-turn .d) (args .base) (at-turn .x) (at-turn .i) (c .digit .result) (digits (args .base) (args .n))
-    (c .digit .ensures) (at-turn .inv .0) (omega arith) (c .before .loop-test .taken) (at-turn .inv .4))
+    let left = two-left (args .base) (at-turn .x) (at-turn .i) (at-turn .inv .0) (c .before .loop-test .taken) (at-turn .inv .3) in (
+      omega arith,
+      omega arith,
+      length-set (at-turn .d) (at-turn .i - 1) (c .digit .result) ∙ at-turn .inv .2,
+      down (args .base) (at-turn .x) (at-turn .i) (omega arith) (at-turn .inv .0) (at-turn .inv .3),
+      digits-turn (at-turn .d) (args .base) (at-turn .x) (at-turn .i) (c .digit .result) (digits (args .base) (args .n))
+          (c .digit .ensures) (at-turn .inv .0) (omega arith) (c .before .loop-test .taken) (at-turn .inv .4),
+    )
 
 returns : tie.Need-returns Inv-loop μ-loop
 returns c =
     let args = c .before .before .before .args in
-    let at-end = c .before .before .loop in
-    (omega arith, length-set (at-end .d) (at-end .i - 1) (c .digit2 .result) ∙ at-end .inv .2,
-    digits-last (at-end .d) (args .base) (at-end .x) (at-end .i) (c .digit2 .result) (digits (args .base) (args .n))
-    (c .digit2 .ensures) (at-end .inv .0) (omega arith) (c .before .loop-test .left) (at-end .inv .4))
+    let at-end = c .before .before .loop in (
+      omega arith,
+      length-set (at-end .d) (at-end .i - 1) (c .digit2 .result) ∙ at-end .inv .2,
+      digits-last (at-end .d) (args .base) (at-end .x) (at-end .i) (c .digit2 .result) (digits (args .base) (args .n))
+          (c .digit2 .ensures) (at-end .inv .0) (omega arith) (c .before .loop-test .left) (at-end .inv .4),
+    )
 
 pub spell-spec : {M : Type 1} → statement M
 spell-spec =
