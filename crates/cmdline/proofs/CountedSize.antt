@@ -1,5 +1,5 @@
 -- The counted size never exceeds the capacity, and the capacity never the limit: every accepted call leaves a line that fits, so does every
--- making that is accepted, and so does any run of calls. `never-exceeds` is the theorem; `accepted-fits` and its like say it of each call.
+-- making that is accepted, and so does any run of calls. `never-exceeds` is the theorem; `str-fits` and its like say it of each call.
 use Prim.Native.Nat.{ℕ, _+_, _≤_}
 use mathlib.Core.Path.{_≡_, refl}
 use mathlib.Core.Bool.{not}
@@ -76,7 +76,7 @@ from-fits s c hold = leb-true (counted (parted s c)) c (hold .1 .0)
 
 -- ---- whether a call is accepted or refused
 
-settled-fits : (t : Text) (p : Plan) → (AllHold (p .tests) → Fits (p .text)) → Fits t → Fits (settled (gateOf p) t (p .text))
+pub settled-fits : (t : Text) (p : Plan) → (AllHold (p .tests) → Fits (p .text)) → Fits t → Fits (settled (gateOf p) t (p .text))
 settled-fits t p told f = split (gateOf p) refl
   where
     split : (g : Gate) → gateOf p ≡ g → Fits (settled g t (p .text))
@@ -99,7 +99,7 @@ calls-fit [] t f = f
 calls-fit (k ∷ ks) t f = calls-fit ks (Calls.calling k t .text) (call-fits k t f)
 
 -- a making that says that it is accepted
-made-fits : (p : Plan) (t : Text) → (AllHold (p .tests) → Fits (p .text)) → answerOf (gateOf p) ≡ Accepted → Fits (settled (gateOf p) t (p .text))
+pub made-fits : (p : Plan) (t : Text) → (AllHold (p .tests) → Fits (p .text)) → answerOf (gateOf p) ≡ Accepted → Fits (settled (gateOf p) t (p .text))
 made-fits p t told e = split (gateOf p) refl e
   where
     split : (g : Gate) → gateOf p ≡ g → answerOf g ≡ Accepted → Fits (settled g t (p .text))

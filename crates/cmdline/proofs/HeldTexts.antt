@@ -20,7 +20,7 @@ use Rattle.cmdline.specs.Held.{textOf, holding, blankLine, replyOf, made
 use Rattle.cmdline.specs.ZeroPast.{Buffers}
 use Rattle.cmdline.specs.Growing.{Extends}
 use Rattle.cmdline.proofs.TextLaws.{size-boot, size-init}
-use Rattle.cmdline.proofs.CountedSize.{Fits, insert-fits}
+use Rattle.cmdline.proofs.CountedSize.{Fits, insert-fits, settled-fits, made-fits}
 use Rattle.cmdline.proofs.NothingLost.{insert-extends}
 use Rattle.cmdline.proofs.InsertedPair.{Inserted, inserted-pair}
 
@@ -81,6 +81,19 @@ made-texts p told cap = split (gateOf p) refl
         let hold = open-all (p .tests) o in
         holds-texts (blankLine 0) (p .text) (blank-buffers 0) (fits-short (p .text) (told hold) (cap hold))
     split (Shut r) o = refl
+
+-- so the counted size of a line in a reply is within its capacity where that of the line before was, and where the call is accepted
+pub reply-fits : (l : Cmdline) (p : Plan) → Buffers l → (AllHold (p .tests) → Fits (p .text)) → Extends (textOf l) (p .text) → Fits (textOf l)
+    → Fits (textOf (replyOf l p .line))
+reply-fits l p b told e f = subst⁻¹ Fits (reply-texts l p b told e) (settled-fits (textOf l) p told f)
+
+pub accepted-fits : (l : Cmdline) (p : Plan) → Buffers l → (AllHold (p .tests) → Fits (p .text)) → Extends (textOf l) (p .text)
+    → replyOf l p .answer ≡ Accepted → Fits (textOf (replyOf l p .line))
+accepted-fits l p b told e a = subst⁻¹ Fits (reply-texts l p b told e) (made-fits p (textOf l) told a)
+
+pub made-line-fits : (p : Plan) → (AllHold (p .tests) → Fits (p .text)) → (AllHold (p .tests) → p .text .capacity ≤ limit)
+    → madeOf p .answer ≡ Accepted → Fits (textOf (madeOf p .line))
+made-line-fits p told cap a = subst⁻¹ Fits (made-texts p told cap) (made-fits p (empty 0) told a)
 
 -- an accepted insert, of the struct
 pub inserted-line : (l : Cmdline) (key value : List ℕ) → Buffers l → replyOf l (insert (textOf l) key value) .answer ≡ Accepted
