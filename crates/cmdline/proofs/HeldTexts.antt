@@ -82,6 +82,10 @@ made-texts p told cap = split (gateOf p) refl
         holds-texts (blankLine 0) (p .text) (blank-buffers 0) (fits-short (p .text) (told hold) (cap hold))
     split (Shut r) o = refl
 
+-- the texts of an accepted call fit the buffers
+pub accepted-short : (l : Cmdline) (p : Plan) → (AllHold (p .tests) → Fits (p .text)) → Extends (textOf l) (p .text) → gateOf p ≡ Open → Short (p .text)
+accepted-short l p told e o = let cap = e .capacity in fits-short (p .text) (told (open-all (p .tests) o)) (omega arith)
+
 -- so the counted size of a line in a reply is within its capacity where that of the line before was, and where the call is accepted
 pub reply-fits : (l : Cmdline) (p : Plan) → Buffers l → (AllHold (p .tests) → Fits (p .text)) → Extends (textOf l) (p .text) → Fits (textOf l)
     → Fits (textOf (replyOf l p .line))

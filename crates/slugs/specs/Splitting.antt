@@ -17,6 +17,11 @@ separator = space ∷ dash ∷ dash ∷ space ∷ []
 unfoldable pub evenAfter : Bool → ℕ → Bool
 evenAfter even x = pick (eqb x quote) (not even) even
 
+-- and after a whole text
+unfoldable pub evenQuotes : Bool → List ℕ → Bool
+evenQuotes even [] = even
+evenQuotes even (x ∷ xs) = evenQuotes (evenAfter even x) xs
+
 -- a separator comes first, and the number of quotes before it is even
 unfoldable pub splits : Bool → List ℕ → Bool
 splits even s = pick even (tagAt separator s 0) false
