@@ -1,4 +1,4 @@
-// The delivery counter's cases of the line, and more of its sentences, run: each prints what came of it.
+// The worked cases of the line that are run, and more of its rules: each prints what came of it.
 use answers::Refusal;
 use cmdline::Answer;
 use cmdline::Cmdline;
