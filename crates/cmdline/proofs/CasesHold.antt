@@ -1,5 +1,4 @@
 -- Each case of the list holds: one statement, computed.
-use Prim.Native.Nat.{ℕ}
 use lib.Dec.{T}
 use Rattle.answers.specs.Pick
 use Rattle.answers.specs.Tests

@@ -1,35 +1,33 @@
 -- The counted size never exceeds the capacity, and the capacity never the limit: every accepted call leaves a line that fits, so does every
--- making that is accepted, and so does any run of calls. `never-exceeds` is the theorem; `accepted-fits` and its like say it of each call.
+-- making that is accepted, and so does any run of calls. `never-exceeds` is the theorem; `str-fits` and its like say it of each call.
 use Prim.Native.Nat.{ℕ, _+_, _≤_}
-use mathlib.Core.Path.{_≡_, refl, sym, ap, _∙_}
-use mathlib.Core.Bool.{Bool, true, false, not}
+use mathlib.Core.Path.{_≡_, refl}
+use mathlib.Core.Bool.{not}
 use mathlib.Core.List.{List, [], _∷_, _++_}
 use native.Mathlib.Omega.{arith}
-use lib.Dec.{leb, eqb}
+use lib.Dec.{eqb}
 use lib.ListN.{length}
 use borrow.Author.Tests.{leb-true}
 use Rattle.answers.specs.Pick.{pick}
-use Rattle.answers.specs.Tests.{Test, askedAll, AllHold}
+use Rattle.answers.specs.Tests.{Test, AllHold}
 use Rattle.answers.specs.declared.Refusal.the-variants as refusal
 use Rattle.answers.specs.declared.Gate.{Gate}
 use Rattle.answers.specs.declared.Gate.the-variants.{Open, Shut}
 use Rattle.answers.proofs.TestsLaws.{open-all}
 use Rattle.cmdline.specs.declared.Answer.the-variants.{Accepted}
 use Rattle.cmdline.specs.declared.DeviceId.{DeviceId}
-use Rattle.cmdline.specs.Limit.{limit, allowed}
 use Rattle.slugs.specs.Trimming.{trim}
 use Rattle.slugs.specs.Bytes.{equals}
 use Rattle.slugs.specs.Keys.{keyTests}
 use Rattle.slugs.specs.Values.{valueTests, pair}
 use Rattle.cmdline.specs.Text.{Text, sizeOf, counted, bootGap, initGap}
-use Rattle.cmdline.specs.Insertion.{Plan, gateOf, answerOf, settled, after, insert, insertStr, insertInitArgs, insertMultiple}
+use Rattle.cmdline.specs.Insertion.{Plan, gateOf, answerOf, settled, insert, insertStr, insertInitArgs, insertMultiple}
 use Rattle.slugs.specs.Lists.{listed, listPre}
 use Rattle.cmdline.specs.Device.{deviceText, addDevice}
 use Rattle.cmdline.specs.Making.{new, parted, tryFrom}
 use Rattle.cmdline.specs.Calls
 use Rattle.cmdline.proofs.TextLaws.{joined-long, size-after-boot, size-after-init}
-use Rattle.cmdline.proofs.MakingLaws.{allowed-most, allowed-least}
-use Rattle.slugs.specs.Joining.{joined}
+use Rattle.cmdline.proofs.MakingLaws.{allowed-least}
 use Rattle.slugs.proofs.RowsLaws.{hold-right}
 
 -- a line fits: its counted size is within its capacity
@@ -78,7 +76,7 @@ from-fits s c hold = leb-true (counted (parted s c)) c (hold .1 .0)
 
 -- ---- whether a call is accepted or refused
 
-settled-fits : (t : Text) (p : Plan) → (AllHold (p .tests) → Fits (p .text)) → Fits t → Fits (settled (gateOf p) t (p .text))
+pub settled-fits : (t : Text) (p : Plan) → (AllHold (p .tests) → Fits (p .text)) → Fits t → Fits (settled (gateOf p) t (p .text))
 settled-fits t p told f = split (gateOf p) refl
   where
     split : (g : Gate) → gateOf p ≡ g → Fits (settled g t (p .text))
@@ -101,7 +99,7 @@ calls-fit [] t f = f
 calls-fit (k ∷ ks) t f = calls-fit ks (Calls.calling k t .text) (call-fits k t f)
 
 -- a making that says that it is accepted
-made-fits : (p : Plan) (t : Text) → (AllHold (p .tests) → Fits (p .text)) → answerOf (gateOf p) ≡ Accepted → Fits (settled (gateOf p) t (p .text))
+pub made-fits : (p : Plan) (t : Text) → (AllHold (p .tests) → Fits (p .text)) → answerOf (gateOf p) ≡ Accepted → Fits (settled (gateOf p) t (p .text))
 made-fits p t told e = split (gateOf p) refl e
   where
     split : (g : Gate) → gateOf p ≡ g → answerOf g ≡ Accepted → Fits (settled g t (p .text))

@@ -6,11 +6,10 @@ use native.Mathlib.Nat.{lt-of-lt-of-le}
 use native.Mathlib.Omega.{arith}
 use lib.Dec.{eqb, lit<, lit≤}
 use lib.ListN.{length, length-append}
-use Rattle.answers.specs.Pick.{pick}
 use Rattle.answers.proofs.PickLaws.{pick-with}
 use Rattle.cmdline.specs.declared.DeviceId.{DeviceId}
 use Rattle.cmdline.specs.declared.DeviceId.the-variants.{Nothing, Number}
-use Rattle.cmdline.specs.Digits.{digits, decimal, hexadecimal}
+use Rattle.cmdline.specs.Digits.{decimal, hexadecimal}
 use Rattle.cmdline.specs.Device.{sizeText, frontText, idText, deviceText}
 use Rattle.cmdline.proofs.DigitsLaws.{digits-few}
 

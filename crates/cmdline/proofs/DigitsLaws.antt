@@ -1,17 +1,16 @@
 -- Laws of digits, one place after the other.
-use Prim.Native.Nat.{ℕ, zero, suc, _+_, _-_, _*_, _/_, _%_, _^_, _≤_, _<_}
-use mathlib.Core.Path.{_≡_, refl, sym, ap, _∙_, subst}
-use mathlib.Core.Bool.{Bool, true, false}
-use mathlib.Core.List.{List, [], _∷_, _++_}
+use Prim.Native.Nat.{ℕ, zero, suc, _+_, _-_, _/_, _%_, _^_, _≤_, _<_}
+use mathlib.Core.Path.{_≡_, sym, _∙_, subst}
+use mathlib.Core.List.{List, _∷_}
 use native.Mathlib.Nat.{pow-zero, pow-suc, one-mul, div-lt-iff-lt-mul, not-suc-le-zero}
 use native.Mathlib.Omega.{arith}
 use lib.Dec.{ltb}
-use lib.ListN.{length, take, drop, getD, set, length-set}
+use lib.ListN.{length, take, drop, set, length-set}
 use lib.Seq.{drop-cons, getD-set-same, drop-set-lt}
 use borrow.Author.Tests.{lt-ltb, le-ltb, ltb-false}
 use Rattle.answers.specs.Pick.{pick}
 use Rattle.answers.proofs.PickLaws.{pick-with}
-use Rattle.cmdline.specs.Digits.{digit, digitsBefore, digits}
+use Rattle.cmdline.specs.Digits.{digit, digitsBefore}
 use Rattle.slugs.proofs.ListLaws.{part-end}
 
 pow-one : (b : ℕ) → b ^ 1 ≡ b

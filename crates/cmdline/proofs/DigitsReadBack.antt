@@ -1,10 +1,10 @@
 -- The digits of a number are its shortest writing: read back they are the number (`digits-read`), and the first of them is not 0 unless the
 -- number is (`no-leading-zero`).
 use Prim.Native.Nat.{ℕ, zero, suc, _+_, _-_, _*_, _/_, _%_, _^_, _≤_, _<_}
-use mathlib.Core.Path.{_≡_, refl, sym, ap, _∙_}
+use mathlib.Core.Path.{_≡_, refl, ap, _∙_}
 use mathlib.Core.Bool.{Bool, true, false}
 use mathlib.Core.List.{List, [], _∷_}
-use native.Mathlib.Nat.{div-add-mod', mod-lt, pow-zero, not-suc-le-zero}
+use native.Mathlib.Nat.{div-add-mod', mod-lt, not-suc-le-zero}
 use native.Mathlib.Omega.{arith}
 use lib.Dec.{ltb}
 use lib.ListN.{getD}

@@ -2,20 +2,17 @@
 -- alone are equal, and all lines with a zero byte.
 use Prim.Native.Nat.{ℕ, _+_, _≤_}
 use mathlib.Core.Path.{_≡_, refl, sym, ap, _∙_}
-use mathlib.Core.Bool.{Bool, true, false, not, _&&_}
+use mathlib.Core.Bool.{Bool, true, false, not}
 use mathlib.Core.List.{List, [], _∷_, _++_}
 use native.Mathlib.Omega.{arith}
 use lib.Dec.{leb, eqb}
 use lib.ListN.{length}
-use lib.Seq.{take-at}
 use borrow.Author.Tests.{le-leb, eqb-true, eq-eqb, eqb-false}
 use Rattle.answers.specs.Pick.{pick}
-use Rattle.answers.specs.Tests.{Test, asked, askedAll}
-use Rattle.answers.specs.declared.Refusal.{Refusal}
+use Rattle.answers.specs.Tests.{asked}
 use Rattle.answers.specs.declared.Refusal.the-variants as refusal
 use Rattle.answers.specs.declared.Gate.{Gate}
 use Rattle.answers.specs.declared.Gate.the-variants.{Open, Shut}
-use Rattle.cmdline.specs.declared.Written.{Written}
 use Rattle.cmdline.specs.declared.Written.the-variants as written
 use Rattle.slugs.specs.Bytes.{has}
 use Rattle.cmdline.specs.Text.{Text}

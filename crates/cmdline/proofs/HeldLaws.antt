@@ -1,11 +1,11 @@
 -- Laws of the struct that holds a line: what a call that is worked out by its numbers and buffers answers.
 use Prim.Native.Nat.{ℕ, _+_, _≤_, min}
-use mathlib.Core.Path.{_≡_, refl, sym, ap, _∙_}
-use mathlib.Core.Bool.{Bool, true, false}
+use mathlib.Core.Path.{_≡_, sym, ap, _∙_}
+use mathlib.Core.Bool.{Bool, true}
 use mathlib.Core.List.{List, [], _∷_, _++_}
 use native.Mathlib.Omega.{arith}
 use lib.Dec.{leb}
-use lib.ListN.{length, take, length-append, replicate}
+use lib.ListN.{length, length-append}
 use lib.Seq.{sets, length-take-le}
 use borrow.Author.Tests.{leb-true}
 use Rattle.answers.specs.Tests.{Test, asked, askedAll, AllHold}
@@ -20,7 +20,7 @@ use Rattle.cmdline.specs.Limit.{limit}
 use Rattle.slugs.specs.Bytes.{printable, every}
 use Rattle.slugs.specs.Trimming.{trim}
 use Rattle.cmdline.specs.Text.{Text, counted, sizeOf, bootGap, initGap, bootRoom, initRoom}
-use Rattle.cmdline.specs.Insertion.{Plan, answerOf, settled, after, withBoot, withInit, insertStr, insertInitArgs}
+use Rattle.cmdline.specs.Insertion.{answerOf, after, withBoot, withInit, insertStr, insertInitArgs}
 use Rattle.cmdline.specs.declared.Written.the-variants as written
 use Rattle.cmdline.specs.Writing.{whole, textTests, textGate, writeGate, writtenOf, bytesOf}
 use Rattle.slugs.specs.Stored.{Stored}

@@ -2,26 +2,25 @@
 -- plan where it is accepted, and the line's own where it is refused; so they fit the limit, and the theorems on sequences of calls speak of
 -- the functions. A line whose calls are worked out over its struct is a line whose calls are worked out over its texts.
 use Prim.Native.Nat.{ℕ, _+_, _≤_, min}
-use mathlib.Core.Path.{_≡_, refl, sym, ap, _∙_, subst⁻¹}
-use mathlib.Core.List.{List, [], _++_}
+use mathlib.Core.Path.{_≡_, refl, ap, _∙_, subst⁻¹}
+use mathlib.Core.List.{List}
 use native.Mathlib.Omega.{arith}
-use lib.ListN.{length, take, drop, replicate, length-replicate}
+use lib.ListN.{length, take, drop, length-replicate}
 use lib.Seq.{sets, sets-eq, length-sets, take-append-seam}
-use Rattle.answers.specs.Tests.{askedAll, AllHold}
+use Rattle.answers.specs.Tests.{AllHold}
 use Rattle.answers.specs.declared.Gate.{Gate}
 use Rattle.answers.specs.declared.Gate.the-variants.{Open, Shut}
 use Rattle.answers.proofs.TestsLaws.{open-all}
 use Rattle.cmdline.specs.declared.Cmdline.{Cmdline}
-use Rattle.cmdline.specs.declared.Reply.{Reply}
 use Rattle.cmdline.specs.declared.Answer.the-variants.{Accepted}
 use Rattle.cmdline.specs.Limit.{limit}
-use Rattle.cmdline.specs.Text.{Text, counted, empty}
+use Rattle.cmdline.specs.Text.{Text, empty}
 use Rattle.cmdline.specs.Insertion.{Plan, gateOf, answerOf, settled, insert}
-use Rattle.cmdline.specs.Held.{textOf, holding, blankLine, settledReply, replyOf, madeOf}
+use Rattle.cmdline.specs.Held.{textOf, holding, blankLine, replyOf, madeOf}
 use Rattle.cmdline.specs.ZeroPast.{Buffers}
 use Rattle.cmdline.specs.Growing.{Extends}
 use Rattle.cmdline.proofs.TextLaws.{size-boot, size-init}
-use Rattle.cmdline.proofs.CountedSize.{Fits, insert-fits}
+use Rattle.cmdline.proofs.CountedSize.{Fits, insert-fits, settled-fits, made-fits}
 use Rattle.cmdline.proofs.NothingLost.{insert-extends}
 use Rattle.cmdline.proofs.InsertedPair.{Inserted, inserted-pair}
 
@@ -82,6 +81,23 @@ made-texts p told cap = split (gateOf p) refl
         let hold = open-all (p .tests) o in
         holds-texts (blankLine 0) (p .text) (blank-buffers 0) (fits-short (p .text) (told hold) (cap hold))
     split (Shut r) o = refl
+
+-- the texts of an accepted call fit the buffers
+pub accepted-short : (l : Cmdline) (p : Plan) → (AllHold (p .tests) → Fits (p .text)) → Extends (textOf l) (p .text) → gateOf p ≡ Open → Short (p .text)
+accepted-short l p told e o = let cap = e .capacity in fits-short (p .text) (told (open-all (p .tests) o)) (omega arith)
+
+-- so the counted size of a line in a reply is within its capacity where that of the line before was, and where the call is accepted
+pub reply-fits : (l : Cmdline) (p : Plan) → Buffers l → (AllHold (p .tests) → Fits (p .text)) → Extends (textOf l) (p .text) → Fits (textOf l)
+    → Fits (textOf (replyOf l p .line))
+reply-fits l p b told e f = subst⁻¹ Fits (reply-texts l p b told e) (settled-fits (textOf l) p told f)
+
+pub accepted-fits : (l : Cmdline) (p : Plan) → Buffers l → (AllHold (p .tests) → Fits (p .text)) → Extends (textOf l) (p .text)
+    → replyOf l p .answer ≡ Accepted → Fits (textOf (replyOf l p .line))
+accepted-fits l p b told e a = subst⁻¹ Fits (reply-texts l p b told e) (made-fits p (textOf l) told a)
+
+pub made-line-fits : (p : Plan) → (AllHold (p .tests) → Fits (p .text)) → (AllHold (p .tests) → p .text .capacity ≤ limit)
+    → madeOf p .answer ≡ Accepted → Fits (textOf (madeOf p .line))
+made-line-fits p told cap a = subst⁻¹ Fits (made-texts p told cap) (made-fits p (empty 0) told a)
 
 -- an accepted insert, of the struct
 pub inserted-line : (l : Cmdline) (key value : List ℕ) → Buffers l → replyOf l (insert (textOf l) key value) .answer ≡ Accepted

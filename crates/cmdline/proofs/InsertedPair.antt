@@ -1,14 +1,11 @@
 -- An accepted `insert` puts exactly key, equals sign and value after what stood there, with the separator as it is counted:
 -- `inserted-pair`. The same of the struct: `inserted-line` (file HeldTexts).
 use Prim.Native.Nat.{ℕ, _+_}
-use mathlib.Core.Path.{_≡_, refl, ap, _∙_}
+use mathlib.Core.Path.{_≡_, refl}
 use mathlib.Core.List.{List, _++_}
-use native.Mathlib.Omega.{arith}
 use lib.ListN.{length}
-use Rattle.answers.specs.Tests.{AllHold}
 use Rattle.answers.specs.declared.Gate.the-variants.{Open}
 use Rattle.answers.proofs.TestsLaws.{open-all}
-use Rattle.slugs.specs.Trimming.{trim}
 use Rattle.slugs.specs.Keys.{keyTests}
 use Rattle.slugs.specs.Values.{valueTests, pair}
 use Rattle.cmdline.specs.Text.{Text, counted, bootGap}

@@ -1,7 +1,7 @@
 -- Never smaller for more room: calls on a new line, its making counted among them, of which none was refused for room, say the same and
 -- leave the same texts under any larger allowed capacity. `larger-capacity` is the theorem.
 use Prim.Native.Nat.{ℕ, _+_, _≤_}
-use mathlib.Core.Path.{_≡_, refl, sym, ap, _∙_}
+use mathlib.Core.Path.{_≡_, refl, ap}
 use mathlib.Core.Bool.{Bool, true, false, not}
 use mathlib.Core.List.{List, [], _∷_, _++_}
 use native.Mathlib.Omega.{arith}
@@ -9,19 +9,18 @@ use lib.Dec.{leb, eqb}
 use lib.ListN.{length}
 use Rattle.answers.specs.Pick.{pick}
 use Rattle.answers.specs.Tests.{Test, asked, askedAll}
-use Rattle.answers.specs.Keeping.{Keeps, ShutBy, shut-by, Widens, end, stays, grows}
+use Rattle.answers.specs.Keeping.{ShutBy, shut-by, Widens, end, stays, grows}
 use Rattle.answers.specs.declared.Refusal.the-variants as refusal
 use Rattle.answers.specs.declared.Gate.{Gate}
 use Rattle.answers.specs.declared.Gate.the-variants.{Open, Shut}
 use Rattle.answers.proofs.KeepingLaws.{row-keeps, kept, leb-grows}
-use Rattle.cmdline.specs.declared.DeviceId.{DeviceId}
 use Rattle.cmdline.specs.Limit.{allowed}
 use Rattle.slugs.specs.Trimming.{trim}
-use Rattle.slugs.specs.Bytes.{every, printable, equals}
+use Rattle.slugs.specs.Bytes.{equals}
 use Rattle.slugs.specs.Keys.{keyTests}
 use Rattle.slugs.specs.Values.{valueTests, pair}
-use Rattle.cmdline.specs.Text.{Text, counted, bootGap, initGap, empty}
-use Rattle.cmdline.specs.Insertion.{Plan, gateOf, answerOf, settled, after, insert, insertStr, insertInitArgs, insertMultiple}
+use Rattle.cmdline.specs.Text.{Text, counted, bootGap, initGap}
+use Rattle.cmdline.specs.Insertion.{Plan, gateOf, answerOf, settled, insert, insertStr, insertInitArgs, insertMultiple}
 use Rattle.slugs.specs.Lists.{listed, listPre}
 use Rattle.cmdline.specs.Device.{deviceText, addDevice}
 use Rattle.cmdline.specs.Making.{new, parted, tryFrom}

@@ -13,6 +13,7 @@ pub mod InsertedPair
 pub mod HeldTexts
 pub mod ZeroLaws
 pub mod ZerosStay
+pub mod RefusedUnchanged
 pub mod DigitsReadBack
 pub mod EqualLines
 pub mod CasesHold

@@ -1,14 +1,13 @@
 -- Laws of how a line is made.
-use Prim.Native.Nat.{ℕ, _+_, _≤_, min}
-use mathlib.Core.Path.{_≡_, refl, sym, ap, _∙_}
+use Prim.Native.Nat.{ℕ, _≤_, min}
+use mathlib.Core.Path.{_≡_, ap, _∙_}
 use mathlib.Core.Bool.{Bool, true}
 use mathlib.Core.List.{List, [], _∷_}
 use native.Mathlib.Omega.{arith}
 use lib.Dec.{leb}
-use lib.ListN.{length, take, drop, replicate, length-replicate}
-use lib.Seq.{sets}
+use lib.ListN.{length, take, drop, replicate}
 use borrow.Author.Tests.{leb-true}
-use Rattle.answers.specs.Tests.{asked, askedAll, AllHold}
+use Rattle.answers.specs.Tests.{asked, AllHold}
 use Rattle.answers.specs.declared.Refusal.the-variants as refusal
 use Rattle.answers.specs.declared.Gate.{Gate}
 use Rattle.answers.specs.declared.Gate.the-variants.{Open}

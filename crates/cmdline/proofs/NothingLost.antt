@@ -1,7 +1,7 @@
 -- Nothing inserted earlier is lost, no word drops off the line: over any calls, the boot text that stood there begins the later one, and so
 -- does the init text. `nothing-lost` is the theorem; `plan-extends` says it of each insertion.
 use Prim.Native.Nat.{ℕ, _≤_}
-use mathlib.Core.Path.{_≡_, refl, sym, ap, _∙_}
+use mathlib.Core.Path.{refl, sym, ap, _∙_}
 use mathlib.Core.List.{List, [], _∷_, _++_, append-assoc, append-nil}
 use native.Mathlib.Omega.{arith}
 use lib.ListN.{length, length-append}

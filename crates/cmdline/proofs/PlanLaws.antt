@@ -1,7 +1,7 @@
 -- Laws of what a call asks, and of what stands after it.
 use mathlib.Core.Path.{_≡_, refl, sym, ap, _∙_}
 use mathlib.Core.Bool.{Bool, true}
-use mathlib.Core.List.{List, [], _∷_, _++_}
+use mathlib.Core.List.{List, _++_}
 use lib.ListN.{length}
 use Rattle.answers.specs.Pick.{pick}
 use Rattle.answers.specs.Tests.{Test, asked, askedAll, AllHold}
@@ -9,7 +9,7 @@ use Rattle.answers.specs.declared.Refusal.{Refusal}
 use Rattle.answers.specs.declared.Refusal.the-variants as refusal
 use Rattle.answers.specs.declared.Gate.{Gate}
 use Rattle.answers.specs.declared.Gate.the-variants.{Open, Shut}
-use Rattle.answers.proofs.TestsLaws.{open-all, shut-stays}
+use Rattle.answers.proofs.TestsLaws.{open-all}
 use Prim.Native.Nat.{ℕ}
 use Rattle.slugs.specs.Bytes.{printable, every}
 use Rattle.slugs.specs.Trimming.{trim}

@@ -1,5 +1,5 @@
 -- Laws of the counted size, of what an insertion is charged, and of room.
-use Prim.Native.Nat.{ℕ, _+_, _≤_, _<_, min}
+use Prim.Native.Nat.{ℕ, _+_, _≤_, min}
 use mathlib.Core.Path.{_≡_, refl, sym, ap, _∙_}
 use mathlib.Core.Bool.{Bool, true, false}
 use mathlib.Core.List.{List, [], _∷_, _++_}
@@ -7,7 +7,7 @@ use native.Mathlib.Omega.{arith}
 use native.Mathlib.Decide.{decLe}
 use lib.Dec.{leb, eqb}
 use lib.ListN.{length, length-append}
-use borrow.Author.Tests.{le-leb, lt-leb, eqb-true}
+use borrow.Author.Tests.{lt-leb, eqb-true}
 use Rattle.answers.specs.Pick.{pick}
 use Rattle.answers.proofs.PickLaws.{pick-with}
 use Rattle.cmdline.specs.Limit.{limit}

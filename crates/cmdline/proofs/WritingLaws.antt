@@ -1,14 +1,14 @@
 -- Laws of the whole text of a line.
 use Prim.Native.Nat.{ℕ, suc, _+_, _-_, _≤_, _<_}
-use mathlib.Core.Path.{_≡_, refl, sym, ap, _∙_, subst}
+use mathlib.Core.Path.{_≡_, refl, sym, ap, _∙_}
 use mathlib.Core.Bool.{Bool, true, false, not, _&&_, _||_}
-use mathlib.Core.List.{List, [], _∷_, _++_, append-assoc, append-nil}
+use mathlib.Core.List.{List, [], _∷_, _++_, append-nil}
 use native.Mathlib.Omega.{arith}
 use native.Mathlib.Decide.{ℕ-discrete}
-use lib.Dec.{leb, ltb, eqb}
+use lib.Dec.{eqb}
 use lib.ListN.{length, drop, getD, length-append, List·getD-append}
-use lib.Seq.{sets, getD-append-add}
-use borrow.Author.Tests.{eq-eqb, ne-eqb, le-leb, lt-leb, eqb-true, eqb-false}
+use lib.Seq.{getD-append-add}
+use borrow.Author.Tests.{eq-eqb, ne-eqb}
 use Rattle.answers.specs.Pick.{pick}
 use Rattle.answers.specs.Tests.{asked, askedAll}
 use Rattle.answers.specs.declared.Refusal.{Refusal}
@@ -16,7 +16,7 @@ use Rattle.answers.specs.declared.Refusal.the-variants as refusal
 use Rattle.answers.specs.declared.Gate.{Gate}
 use Rattle.answers.specs.declared.Gate.the-variants.{Open, Shut}
 use Rattle.slugs.specs.Bytes.{has}
-use Rattle.cmdline.specs.Text.{Text, sizeOf}
+use Rattle.cmdline.specs.Text.{sizeOf}
 use Rattle.cmdline.specs.Writing.{wholeOf, headed, textTests, sameBytes}
 use Rattle.slugs.proofs.ListLaws.{here, gone}
 use Rattle.slugs.proofs.BytesLaws.{has-append}

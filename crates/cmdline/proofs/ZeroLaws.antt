@@ -1,6 +1,6 @@
 -- Laws of zeros past the texts: a longer text leaves them.
-use Prim.Native.Nat.{ℕ, zero, suc, _+_, _≤_, min}
-use mathlib.Core.Path.{_≡_, refl, sym, ap, _∙_}
+use Prim.Native.Nat.{ℕ, suc, _+_, _≤_}
+use mathlib.Core.Path.{_≡_, refl, _∙_}
 use mathlib.Core.List.{List, [], _∷_}
 use native.Mathlib.Omega.{arith}
 use native.Mathlib.Decide.{decLe}
@@ -23,7 +23,7 @@ use Rattle.cmdline.proofs.CountedSize.{Fits}
 use Rattle.cmdline.proofs.HeldTexts.{Short, fits-short, buffers-held, blank-buffers}
 
 -- what is stored leaves the bytes past it
-past-stored : (s d : List ℕ) (at i : ℕ) → at + length s ≤ i → getD (sets d at s) i 0 ≡ getD d i 0
+pub past-stored : (s d : List ℕ) (at i : ℕ) → at + length s ≤ i → getD (sets d at s) i 0 ≡ getD d i 0
 past-stored [] d at i h = refl
 past-stored (x ∷ xs) d at i h =
     past-stored xs (set d at x) (suc at) i (omega arith) ∙ getD-set-other d at i x 0 (λ e. let z : i ≡ at = e in omega arith)

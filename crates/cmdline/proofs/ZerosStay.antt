@@ -8,7 +8,7 @@ use Rattle.cmdline.specs.Insertion.{Plan, insert, insertStr, insertInitA
 use Rattle.cmdline.specs.Device.{addDevice}
 use Rattle.cmdline.specs.Making.{new, tryFrom}
 use Rattle.answers.specs.Tests.{AllHold}
-use Rattle.cmdline.specs.Held.{textOf, replyOf, madeOf}
+use Rattle.cmdline.specs.Held.{textOf, replyOf}
 use Rattle.cmdline.specs.ZeroPast.{Buffers, ZeroPast}
 use Rattle.cmdline.specs.Growing.{Extends}
 use Rattle.cmdline.specs.Keeping.{Gives}

@@ -1,4 +1,4 @@
--- The delivery counter's cases of the line that are marked *, as one list.
+-- The worked cases of the line that are to be proved, as one list.
 use Prim.Native.Nat.{ℕ}
 use mathlib.Core.Bool.{Bool, true, false, _&&_}
 use mathlib.Core.List.{List, [], _∷_, _++_}

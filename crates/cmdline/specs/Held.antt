@@ -1,7 +1,7 @@
 -- The struct that holds a line: the texts that it holds, and the struct that holds given texts.
 use Prim.Native.Nat.{ℕ, min}
 use mathlib.Core.Path.{_≡_}
-use mathlib.Core.List.{List, []}
+use mathlib.Core.List.{List}
 use lib.ListN.{length, take, replicate}
 use lib.Seq.{sets}
 use Rattle.answers.specs.declared.Gate.{Gate}

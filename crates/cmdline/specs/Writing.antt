@@ -7,7 +7,6 @@ use lib.ListN.{length}
 use Rattle.answers.specs.Pick.{pick}
 use Rattle.answers.specs.Catalogue.{numberOf}
 use Rattle.answers.specs.Tests.{Test, askedAll}
-use Rattle.answers.specs.declared.Refusal.{Refusal}
 use Rattle.answers.specs.declared.Refusal.the-variants as refusal
 use Rattle.answers.specs.declared.Gate.{Gate}
 use Rattle.answers.specs.declared.Gate.the-variants.{Open, Shut}

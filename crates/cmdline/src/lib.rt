@@ -114,7 +114,7 @@ fn clamped(
     }
 }
 
-// What the written answer says, given room: 50, 51, or that it is good.
+// What is asked of the text of a line before room is.
 fn text_gate(line: Cmdline) -> Gate
     ensures { λ r. ⌜ r ≡ textGate (textOf line) ⌝ }
 {

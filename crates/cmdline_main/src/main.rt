@@ -1,4 +1,4 @@
-// The delivery counter's cases of the line, and more of its sentences, run: each prints what came of it.
+// The worked cases of the line that are run, and more of its rules: each prints what came of it.
 use answers::Refusal;
 use cmdline::Answer;
 use cmdline::Cmdline;
@@ -33,9 +33,10 @@ fn say_line(line: Cmdline) {
         Written::Bytes(n) => {
             if 0 < n {
                 if n <= 4200 {
+                    let from = 0;
                     let end = n - 1;
                     say(b"[");
-                    say(&out[..end]);
+                    say(&out[from..end]);
                     say(b"]");
                 }
             }

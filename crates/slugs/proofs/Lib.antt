@@ -6,4 +6,5 @@ pub mod ValuesLaws
 pub mod StoredLaws
 pub mod ListsLaws
 pub mod SplittingLaws
+pub mod SplitPlace
 pub mod Outcomes

@@ -8,7 +8,7 @@ use lib.ListN.{length, take, drop, getD}
 use lib.Seq.{take-suc, take-length}
 use Rattle.answers.specs.Pick.{pick}
 use Rattle.slugs.specs.Bytes.{blank}
-use Rattle.slugs.specs.Trimming.{trimStart, trimEnd, trim, before}
+use Rattle.slugs.specs.Trimming.{trimStart, trimEnd, before}
 use Rattle.slugs.proofs.ListLaws.{here, gone}
 
 -- ---- at the start, from a place on

@@ -1,6 +1,6 @@
 -- Where a whole line parts into boot text and init text.
 use Prim.Native.Nat.{ℕ, suc}
-use mathlib.Core.Bool.{Bool, true, false, not, _&&_}
+use mathlib.Core.Bool.{Bool, true, false, not}
 use mathlib.Core.List.{List, [], _∷_}
 use lib.Dec.{eqb}
 use lib.ListN.{take, drop}
@@ -16,6 +16,11 @@ separator = space ∷ dash ∷ dash ∷ space ∷ []
 -- whether the number of quotes is even, after one byte more
 unfoldable pub evenAfter : Bool → ℕ → Bool
 evenAfter even x = pick (eqb x quote) (not even) even
+
+-- and after a whole text
+unfoldable pub evenQuotes : Bool → List ℕ → Bool
+evenQuotes even [] = even
+evenQuotes even (x ∷ xs) = evenQuotes (evenAfter even x) xs
 
 -- a separator comes first, and the number of quotes before it is even
 unfoldable pub splits : Bool → List ℕ → Bool

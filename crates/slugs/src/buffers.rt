@@ -1,5 +1,4 @@
 // Bytes put into a buffer, as far as it goes.
-ghost use mathlib.Core.Path.{_≡_};
 ghost use mathlib.Core.List.{_∷_, _++_};
 ghost use Rattle.slugs.specs.Bytes.{equals};
 ghost use Rattle.slugs.specs.Stored.{Stored};
