@@ -2,7 +2,7 @@
 //
 // Portions Copyright 2017 The Chromium OS Authors. All rights reserved.
 // Use of this source code is governed by a BSD-style license that can be
-// found in the LICENSE-BSD-3-Clause file.
+// found in the NOTICE file.
 //
 // SPDX-License-Identifier: Apache-2.0 AND BSD-3-Clause
 //
