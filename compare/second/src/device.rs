@@ -45,7 +45,7 @@ mod tests {
     #[test]
     fn the_longest_text_has_at_most_80_bytes() {
         let text = device_text(u64::MAX, u64::MAX, u32::MAX, Some(u32::MAX)).unwrap();
-        assert_eq!(text.len(), 79);
+        assert_eq!(text.len(), 80);
     }
 
     #[test]
