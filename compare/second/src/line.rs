@@ -40,7 +40,7 @@ impl Line {
     }
 
     /// What the texts take of the capacity, with the separator and the closing zero.
-    fn counted_size(&self) -> usize {
+    pub fn counted_size(&self) -> usize {
         let mut size = self.boot.len() + 1;
         if !self.init.is_empty() {
             size += SEPARATOR.len() + self.init.len();
