@@ -1,6 +1,7 @@
 //! Whoever answers questions.
 
 use crate::answer::Answer;
+use crate::compare;
 use crate::question::Question;
 
 /// What came back for one question.
@@ -26,7 +27,12 @@ pub trait Backend {
             .map(|question| self.ask(question))
             .collect()
     }
+
+    /// Whether this backend's reply agrees with the answer that is wanted.
+    fn agrees(&self, question: &Question, wanted: &Answer, reply: &Reply) -> bool {
+        compare::agrees(question, wanted, reply)
+    }
 }
 
 /// Makes a backend; each thread of a run has its own.
-pub type Maker = Box<dyn Fn() -> Box<dyn Backend> + Sync>;
+pub type Maker = Box<dyn Fn() -> Box<dyn Backend> + Send + Sync>;

@@ -100,9 +100,12 @@ pub fn failed_copy(question: &Question, answer: &Answer) -> Range<usize> {
 /// Where the first segment that cannot be copied was to go.
 fn refused_segment(load: &Load) -> Option<Range<usize>> {
     let image = &load.image;
-    let table = u64_at(image, 32) as usize;
-    for place in (0..usize::from(u16_at(image, 56))).map(|index| table + 56 * index) {
-        let header = &image[place..place + 56];
+    if image.len() < 64 {
+        return None;
+    }
+    let table = image.get(u64_at(image, 32) as usize..)?;
+    let count = usize::from(u16_at(image, 56));
+    for header in table.chunks_exact(56).take(count) {
         let (from, size) = (u64_at(header, 8), u64_at(header, 32));
         if u32_at(header, 0) != 1 || size == 0 {
             continue;
@@ -117,7 +120,8 @@ fn refused_segment(load: &Load) -> Option<Range<usize>> {
 }
 
 fn refused_kernel(load: &Load) -> Option<Range<usize>> {
-    let start = u64::from(u32_at(&load.image, 0x214));
+    let start = load.image.get(0x214..0x218)?;
+    let start = u64::from(u32_at(start, 0));
     let address = load.options.offset.unwrap_or(start);
     Some(clamped(address, u64::MAX, load.guest.len()))
 }

@@ -1,1 +1,5 @@
-fn main() {}
+//! The comparison without the published crate.
+
+fn main() {
+    driver::cli::main(Vec::new());
+}

@@ -1,0 +1,91 @@
+//! What a run says at its end.
+
+use crate::backend::{Backend, Maker, Reply};
+use crate::over_second;
+use crate::question::{Area, Question};
+use crate::run::Outcome;
+use crate::show::show;
+use crate::shrink::shrink;
+
+/// How many differences are made small and printed.
+const SHOWN: usize = 8;
+
+/// Every number of the rules that questions of ordinary sizes can reach; 60 needs a slice of more than 2^40 bytes.
+const REACHABLE: [u8; 32] = [
+    1, 2, 3, 4, 5, 6, 7, 8, 9, 10, 11, 12, 13, 21, 22, 23, 24, 31, 32, 41, 42, 43, 44, 45, 46, 47,
+    48, 49, 50, 51, 61, 62,
+];
+
+/// Prints the differences, each made small, and the last line; answers whether there was none.
+pub fn report(outcome: &Outcome, backends: &[&Maker]) -> bool {
+    let mut asked: Vec<_> = backends.iter().map(|make| make()).collect();
+    for difference in outcome.differences.iter().take(SHOWN) {
+        let backend = asked[difference.backend].as_mut();
+        println!("{}", difference_text(difference.question.clone(), backend));
+    }
+    println!("{}", last_line(outcome, &asked));
+    outcome.difference_count == 0
+}
+
+/// The smallest question that still differs, and both answers.
+fn difference_text(question: Question, backend: &mut dyn Backend) -> String {
+    let smallest = shrink(question, |question| {
+        let wanted = over_second::answer(question);
+        let reply = backend.ask(question);
+        !backend.agrees(question, &wanted, &reply)
+    });
+    let wanted = over_second::answer(&smallest).line(smallest.guest());
+    let answered = line_of(&smallest, &backend.ask(&smallest));
+    let name = backend.name();
+    let question = show(&smallest);
+    format!("difference: {question}  second: {wanted}\n  {name}: {answered}\n")
+}
+
+/// What a reply says, as a line.
+pub fn line_of(question: &Question, reply: &Reply) -> String {
+    match reply {
+        Reply::Answer(answer) => answer.line(question.guest()),
+        Reply::Line(line) => line.clone(),
+        Reply::Outside => "outside the domain".into(),
+    }
+}
+
+fn last_line(outcome: &Outcome, asked: &[Box<dyn Backend>]) -> String {
+    let cases = Area::ALL.into_iter().zip(outcome.cases);
+    let cases: Vec<_> = cases
+        .map(|(area, count)| format!("{} {count}", area.name()))
+        .collect();
+    let compared = asked.iter().zip(&outcome.compared);
+    let compared: Vec<_> = compared
+        .map(|(backend, count)| format!("{} on {count}", backend.name()))
+        .collect();
+    format!(
+        "cases: {}; second compared with {}; {}; differences: {}",
+        cases.join(", "),
+        if compared.is_empty() {
+            "none".into()
+        } else {
+            compared.join(", ")
+        },
+        reached(outcome),
+        outcome.difference_count
+    )
+}
+
+fn reached(outcome: &Outcome) -> String {
+    let (reached, missed): (Vec<u8>, Vec<u8>) = REACHABLE
+        .into_iter()
+        .partition(|number| outcome.numbers.contains_key(number));
+    let words = |numbers: &[u8]| {
+        numbers
+            .iter()
+            .map(u8::to_string)
+            .collect::<Vec<_>>()
+            .join(" ")
+    };
+    let mut text = format!("numbers reached: {}", words(&reached));
+    if !missed.is_empty() {
+        text += &format!(" (missed: {})", words(&missed));
+    }
+    text
+}
