@@ -33,7 +33,11 @@ fn main() {
         let mut edited = edited(name, &source, &mistakes);
         if name == "lib.rs" {
             // an included file can have no documentation of its own, but this one names the mistakes
-            edited = edited.lines().filter(|line| !line.starts_with("//!")).collect::<Vec<_>>().join("\n");
+            edited = edited
+                .lines()
+                .filter(|line| !line.starts_with("//!"))
+                .collect::<Vec<_>>()
+                .join("\n");
             edited += &names(&mistakes);
         }
         fs::write(out.join(name), edited).expect("cargo's folder can be written");

@@ -16,17 +16,26 @@ pub fn agrees(question: &Question, wanted: &Answer, reply: &Reply) -> bool {
 
 /// Whether the crate's reply agrees, but for where a failed copy was to go.
 pub fn agrees_but_for_failed_copy(question: &Question, wanted: &Answer, reply: &Reply) -> bool {
-    let unwritten = domain::failed_copy(question, wanted);
     match reply {
-        Reply::Answer(answer) if !unwritten.is_empty() => {
-            let mut answer = answer.clone();
-            if let Answer::Elf { guest, .. } | Answer::Bzimage { guest, .. } = &mut answer {
-                guest[unwritten.clone()].copy_from_slice(&question.guest()[unwritten]);
-            }
-            answers_agree(wanted, &answer)
+        Reply::Answer(answer) if !domain::failed_copy(question, wanted).is_empty() => {
+            answers_agree(wanted, &without_failed_copy(question, answer, wanted))
         }
         _ => agrees(question, wanted, reply),
     }
+}
+
+/// The crate's answer, with what stands where a failed copy was to go taken from the second program's.
+fn without_failed_copy(question: &Question, answer: &Answer, wanted: &Answer) -> Answer {
+    let unwritten = domain::failed_copy(question, wanted);
+    let mut answer = answer.clone();
+    match (&mut answer, wanted) {
+        (Answer::Elf { guest, .. }, Answer::Elf { guest: other, .. })
+        | (Answer::Bzimage { guest, .. }, Answer::Bzimage { guest: other, .. }) => {
+            guest[unwritten.clone()].copy_from_slice(&other[unwritten]);
+        }
+        _ => {}
+    }
+    answer
 }
 
 /// Equal in everything that both tell.
@@ -59,9 +68,9 @@ fn calls_agree(wanted: &[CallAnswer], other: &[CallAnswer]) -> bool {
     wanted.len() == other.len() && wanted.iter().zip(other).all(agree)
 }
 
-/// The crate's answer with what it does not tell taken from the second program's.
-pub fn completed(crate_answer: &Answer, second_answer: &Answer) -> Answer {
-    let mut whole = crate_answer.clone();
+/// The crate's answer with what it does not tell, or what lies outside its domain, taken from the second program's.
+pub fn completed(question: &Question, crate_answer: &Answer, second_answer: &Answer) -> Answer {
+    let mut whole = without_failed_copy(question, crate_answer, second_answer);
     match (&mut whole, second_answer) {
         (Answer::Note(Ok(walked)), Answer::Note(Ok(other))) => walked.headers = other.headers,
         (Answer::Line(calls), Answer::Line(others)) => complete_calls(calls, others),
@@ -126,10 +135,12 @@ mod tests {
         };
         assert!(answers_agree(&walked(Some(2)), &walked(None)));
         assert!(!answers_agree(&walked(Some(2)), &walked(Some(3))));
-        assert_eq!(completed(&walked(None), &walked(Some(2))), walked(Some(2)));
+        let question = &Question::Line(vec![]);
+        let whole = completed(question, &walked(None), &walked(Some(2)));
+        assert_eq!(whole, walked(Some(2)));
         let told = Answer::Line(vec![CallAnswer::Refused(61), CallAnswer::Ok]);
         let untold = Answer::Line(vec![CallAnswer::Unasked, CallAnswer::Ok]);
         assert!(answers_agree(&told, &untold));
-        assert_eq!(completed(&untold, &told), told);
+        assert_eq!(completed(question, &untold, &told), told);
     }
 }

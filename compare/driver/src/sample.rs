@@ -3,7 +3,6 @@
 use crate::answer::Answer;
 use crate::backend::{Maker, Reply};
 use crate::compare;
-use crate::domain;
 use crate::encode::framed;
 use crate::examples;
 use crate::generate;
@@ -76,11 +75,7 @@ fn answer(question: &Question, reply: &Reply, sources: &mut Sources) -> Answer {
         sources.second += 1;
         return second;
     };
-    let mut whole = compare::completed(answer, &second);
-    let unwritten = domain::failed_copy(question, &second);
-    if let Answer::Elf { guest, .. } | Answer::Bzimage { guest, .. } = &mut whole {
-        guest[unwritten.clone()].copy_from_slice(&question.guest()[unwritten]);
-    }
+    let whole = compare::completed(question, answer, &second);
     if whole == *answer {
         sources.published += 1;
     } else {
