@@ -22,6 +22,8 @@ pub fn planted(seed: u64, threads: usize, published: Option<&Maker>) -> bool {
         stop_at_difference: true,
         show_progress: false,
     };
+    // a mistake may panic, which is noticed like any other answer and need not be told each time
+    std::panic::set_hook(Box::new(|_| {}));
     // with no mistake switched on the copy is the program itself
     planted::switch_on(usize::MAX);
     let control = run(&plan, over_planted::answer, &[&second]);

@@ -12,6 +12,7 @@ use driver::question::{LineLoad, Load, Options, Question, Walk};
 use linux_loader::loader::elf::PvhBootCapability;
 use linux_loader::loader::{load_cmdline, BzImage, Elf, KernelLoader, KernelLoaderResult};
 use std::io::Cursor;
+use std::panic::{catch_unwind, AssertUnwindSafe};
 use vm_memory::{Address, ByteValued, GuestAddress, GuestMemoryMmap};
 
 #[derive(Default)]
@@ -28,13 +29,9 @@ impl Backend for Published {
         if !domain::asks_crate(question) {
             return Reply::Outside;
         }
-        Reply::Answer(match question {
-            Question::Elf(load) => self.elf(load),
-            Question::Note(walk) => Answer::Note(self.note(walk)),
-            Question::Bzimage(load) => self.bzimage(load),
-            Question::Line(calls) => Answer::Line(lines::answer_calls(calls).0),
-            Question::LineLoad(load) => self.line_load(load),
-        })
+        // a panic is a difference to be shown, not the end of the run
+        let answered = catch_unwind(AssertUnwindSafe(|| self.answer(question)));
+        answered.map_or(Reply::Line("(panicked)".into()), Reply::Answer)
     }
 
     fn agrees(&self, question: &Question, wanted: &Answer, reply: &Reply) -> bool {
@@ -45,6 +42,16 @@ impl Backend for Published {
 type Loaded = Result<KernelLoaderResult, u8>;
 
 impl Published {
+    fn answer(&mut self, question: &Question) -> Answer {
+        match question {
+            Question::Elf(load) => self.elf(load),
+            Question::Note(walk) => Answer::Note(self.note(walk)),
+            Question::Bzimage(load) => self.bzimage(load),
+            Question::Line(calls) => Answer::Line(lines::answer_calls(calls).0),
+            Question::LineLoad(load) => self.line_load(load),
+        }
+    }
+
     fn elf(&mut self, load: &Load) -> Answer {
         let memory = self.guests.holding(&load.guest);
         let outcome = run::<Elf>(memory, load.options, &load.image);

@@ -67,12 +67,9 @@ impl Line {
     pub fn insert_init_args(&mut self, slug: &[u8]) -> Result<(), Refusal> {
         let slug = trimmed(slug);
         printable(slug)?;
-        let space = if self.init.is_empty() {
-            SEPARATOR.len()
-        } else {
-            1
-        };
-        self.room_for(space + slug.len())?;
+        // the separator of 4 bytes, or a space behind earlier init text
+        let joint = if self.init.is_empty() { 4 } else { 1 };
+        self.room_for(joint + slug.len())?;
         append(&mut self.init, slug);
         Ok(())
     }
