@@ -25,6 +25,7 @@ compare answer            answers questions from standard input with the second 
 --threads N               how many threads ask, 2 where none is given
 --elf N --note N --bzimage N --line N --load N
                           how many random questions of each area, beside the exhaustive ones
+--exhaustive no           leaves the exhaustive questions out
 --probe 'PROGRAM WORD..'  the proved program, asked over a pipe
 ";
 
@@ -35,6 +36,7 @@ struct Words {
     seed: u64,
     threads: usize,
     random: [u64; 5],
+    exhaustive: bool,
     probe: Option<String>,
     others: Vec<String>,
 }
@@ -48,10 +50,15 @@ pub fn main(in_process: Vec<Maker>) {
     let probe = words.probe.clone().map(probe_maker);
     let backends: Vec<&Maker> = in_process.iter().chain(&probe).collect();
     let good = match command.as_str() {
+        "run" if backends.is_empty() => {
+            eprintln!("compare: there is nobody to compare the second program with; --probe names a program");
+            exit(2)
+        }
         "run" => {
             let plan = Plan {
                 seed: words.seed,
                 random: words.random,
+                exhaustive: words.exhaustive,
                 threads: words.threads,
                 stop_at_difference: false,
                 show_progress: true,
@@ -80,6 +87,7 @@ fn words(arguments: impl Iterator<Item = String>) -> Words {
         seed: 1,
         threads: 2,
         random: RANDOM,
+        exhaustive: true,
         probe: None,
         others: Vec::new(),
     };
@@ -96,6 +104,7 @@ fn words(arguments: impl Iterator<Item = String>) -> Words {
         match name {
             "seed" => words.seed = number(),
             "threads" => words.threads = number() as usize,
+            "exhaustive" => words.exhaustive = value != "no",
             "probe" => words.probe = Some(value),
             _ => match Area::named(name) {
                 Some(area) => words.random[area as usize] = number(),

@@ -18,6 +18,7 @@ pub fn planted(seed: u64, threads: usize, published: Option<&Maker>) -> bool {
     let mut plan = Plan {
         seed,
         random: RANDOM.map(|count| count / 8),
+        exhaustive: true,
         threads,
         stop_at_difference: true,
         show_progress: false,

@@ -23,6 +23,7 @@ pub fn report(outcome: &Outcome, backends: &[&Maker]) -> bool {
         let backend = asked[difference.backend].as_mut();
         println!("{}", difference_text(difference.question.clone(), backend));
     }
+    println!("{}", frequencies(outcome));
     println!("{}", last_line(outcome, &asked));
     outcome.difference_count == 0
 }
@@ -70,6 +71,13 @@ fn last_line(outcome: &Outcome, asked: &[Box<dyn Backend>]) -> String {
         reached(outcome),
         outcome.difference_count
     )
+}
+
+/// How often each refusal was wanted: a number that is seldom reached is seldom compared.
+fn frequencies(outcome: &Outcome) -> String {
+    let entry = |(number, count): (&u8, &u64)| format!("{number} x {count}");
+    let entries: Vec<String> = outcome.numbers.iter().map(entry).collect();
+    format!("refusals: {}", entries.join(", "))
 }
 
 fn reached(outcome: &Outcome) -> String {

@@ -21,6 +21,8 @@ pub struct Plan {
     pub seed: u64,
     /// How many random questions for each area, in the order of `Area::ALL`.
     pub random: [u64; 5],
+    /// Whether the exhaustive questions are asked, too.
+    pub exhaustive: bool,
     pub threads: usize,
     /// Ends at the first difference.
     pub stop_at_difference: bool,
@@ -92,7 +94,8 @@ pub fn run(plan: &Plan, wanted: fn(&Question) -> Answer, backends: &[&Maker]) ->
 /// All parts, the areas in turn, so that a mistake in any area is met early.
 fn parts(plan: &Plan) -> Vec<Part> {
     let mut parts = Vec::new();
-    for part in 0..EXHAUSTIVE_PARTS {
+    let exhaustive_parts = if plan.exhaustive { EXHAUSTIVE_PARTS } else { 0 };
+    for part in 0..exhaustive_parts {
         parts.extend(Area::ALL.map(|area| (area, Source::Exhaustive { part })));
     }
     let longest = plan.random.iter().max().expect("there are areas");
@@ -248,36 +251,26 @@ mod tests {
     use super::*;
     use crate::over_second::{self, Second};
 
-    fn small(seed: u64, threads: usize) -> Plan {
-        Plan {
+    fn outcome(seed: u64, threads: usize) -> Outcome {
+        let plan = Plan {
             seed,
-            random: [300, 300, 20, 300, 300],
+            random: [300, 300, 20, 9000, 300],
+            exhaustive: false,
             threads,
             stop_at_difference: false,
             show_progress: false,
-        }
-    }
-
-    /// The random parts alone: the exhaustive ones are too many for a test.
-    fn random_outcome(plan: &Plan, maker: &Maker) -> Outcome {
-        let mut total = Outcome::default();
-        for part in parts(plan) {
-            if matches!(part.1, Source::Random { .. }) {
-                total.add(run_part(plan, part, over_second::answer, &mut [maker()]));
-            }
-        }
-        total
+        };
+        let maker: Maker = Box::new(|| Box::new(Second));
+        run(&plan, over_second::answer, &[&maker])
     }
 
     #[test]
-    fn one_seed_gives_one_result() {
-        let maker: Maker = Box::new(|| Box::new(Second));
-        let first = random_outcome(&small(5, 1), &maker);
-        let again = random_outcome(&small(5, 2), &maker);
-        assert_eq!(first.cases, [300, 300, 20, 300, 300]);
-        assert_eq!(first.numbers, again.numbers);
-        assert_ne!(first.numbers, random_outcome(&small(6, 1), &maker).numbers);
+    fn one_seed_gives_one_result_on_any_number_of_threads() {
+        let first = outcome(5, 1);
+        assert_eq!(first.cases, [300, 300, 20, 9000, 300]);
+        assert_eq!(first.numbers, outcome(5, 3).numbers);
+        assert_ne!(first.numbers, outcome(6, 1).numbers);
         assert_eq!(first.difference_count, 0);
-        assert_eq!(first.compared, [1220]);
+        assert_eq!(first.compared, [9920]);
     }
 }

@@ -3,12 +3,16 @@
 mod guest;
 mod lines;
 mod numbers;
+mod outside;
 mod published;
 
 use driver::backend::Maker;
 use driver::cli;
 
 fn main() {
+    if std::env::args().nth(1).as_deref() == Some("outside") {
+        return outside::show_all();
+    }
     let published: Maker = Box::new(|| Box::new(published::Published::default()));
     cli::main(vec![published]);
 }
