@@ -7,7 +7,7 @@ use crate::pipe::Pipe;
 use crate::planted_run::planted;
 use crate::question::Area;
 use crate::report::report;
-use crate::run::{run, Plan};
+use crate::run::{run, Plan, EXHAUSTIVE_PARTS};
 use crate::sample;
 use crate::stand_in;
 use std::io::{stdin, stdout};
@@ -25,7 +25,7 @@ compare answer            answers questions from standard input with the second 
 --threads N               how many threads ask, 2 where none is given
 --elf N --note N --bzimage N --line N --load N
                           how many random questions of each area, beside the exhaustive ones
---exhaustive no           leaves the exhaustive questions out
+--exhaustive N            how many sixteenths of the exhaustive questions are asked, all 16 where none is given
 --probe 'PROGRAM WORD..'  the proved program, asked over a pipe
 ";
 
@@ -36,7 +36,7 @@ struct Words {
     seed: u64,
     threads: usize,
     random: [u64; 5],
-    exhaustive: bool,
+    exhaustive: usize,
     probe: Option<String>,
     others: Vec<String>,
 }
@@ -87,7 +87,7 @@ fn words(arguments: impl Iterator<Item = String>) -> Words {
         seed: 1,
         threads: 2,
         random: RANDOM,
-        exhaustive: true,
+        exhaustive: EXHAUSTIVE_PARTS,
         probe: None,
         others: Vec::new(),
     };
@@ -104,7 +104,7 @@ fn words(arguments: impl Iterator<Item = String>) -> Words {
         match name {
             "seed" => words.seed = number(),
             "threads" => words.threads = number() as usize,
-            "exhaustive" => words.exhaustive = value != "no",
+            "exhaustive" => words.exhaustive = number() as usize,
             "probe" => words.probe = Some(value),
             _ => match Area::named(name) {
                 Some(area) => words.random[area as usize] = number(),

@@ -3,7 +3,7 @@
 use crate::backend::Maker;
 use crate::over_planted;
 use crate::over_second::Second;
-use crate::run::{run, Plan};
+use crate::run::{run, Plan, EXHAUSTIVE_PARTS};
 
 /// Enough random questions for a rare path, after all the exhaustive ones.
 const RANDOM: [u64; 5] = [160_000, 80_000, 80_000, 80_000, 40_000];
@@ -18,7 +18,7 @@ pub fn planted(seed: u64, threads: usize, published: Option<&Maker>) -> bool {
     let mut plan = Plan {
         seed,
         random: RANDOM.map(|count| count / 8),
-        exhaustive: true,
+        exhaustive: EXHAUSTIVE_PARTS,
         threads,
         stop_at_difference: true,
         show_progress: false,

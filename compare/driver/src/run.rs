@@ -15,14 +15,14 @@ use std::time::{Duration, Instant};
 const BATCH: usize = 64;
 const PART: u64 = 8192;
 /// The exhaustive questions of an area are dealt out to this many parts.
-const EXHAUSTIVE_PARTS: usize = 16;
+pub const EXHAUSTIVE_PARTS: usize = 16;
 
 pub struct Plan {
     pub seed: u64,
     /// How many random questions for each area, in the order of `Area::ALL`.
     pub random: [u64; 5],
-    /// Whether the exhaustive questions are asked, too.
-    pub exhaustive: bool,
+    /// How many parts of the exhaustive questions are asked, too.
+    pub exhaustive: usize,
     pub threads: usize,
     /// Ends at the first difference.
     pub stop_at_difference: bool,
@@ -94,8 +94,7 @@ pub fn run(plan: &Plan, wanted: fn(&Question) -> Answer, backends: &[&Maker]) ->
 /// All parts, the areas in turn, so that a mistake in any area is met early.
 fn parts(plan: &Plan) -> Vec<Part> {
     let mut parts = Vec::new();
-    let exhaustive_parts = if plan.exhaustive { EXHAUSTIVE_PARTS } else { 0 };
-    for part in 0..exhaustive_parts {
+    for part in 0..plan.exhaustive.min(EXHAUSTIVE_PARTS) {
         parts.extend(Area::ALL.map(|area| (area, Source::Exhaustive { part })));
     }
     let longest = plan.random.iter().max().expect("there are areas");
@@ -255,7 +254,7 @@ mod tests {
         let plan = Plan {
             seed,
             random: [300, 300, 20, 9000, 300],
-            exhaustive: false,
+            exhaustive: 0,
             threads,
             stop_at_difference: false,
             show_progress: false,

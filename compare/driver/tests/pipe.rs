@@ -11,7 +11,7 @@ fn compare(words: &[&str]) -> Output {
 
 fn run_against(program: &str) -> Output {
     let few = ["--elf", "300", "--note", "300", "--bzimage", "30"];
-    let more = ["--line", "300", "--load", "300", "--exhaustive", "no"];
+    let more = ["--line", "300", "--load", "300", "--exhaustive", "0"];
     let words = [&["run", "--probe", program][..], &few, &more].concat();
     compare(&words)
 }
