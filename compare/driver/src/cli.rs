@@ -29,8 +29,8 @@ compare answer            answers questions from standard input with the second 
 --probe 'PROGRAM WORD..'  the proved program, asked over a pipe
 ";
 
-/// How many random questions are asked where nothing else is said: a run of about a minute.
-const RANDOM: [u64; 5] = [2_000_000, 500_000, 500_000, 300_000, 200_000];
+/// How many random questions are asked where nothing else is said: two minutes for a program under an emulator, seconds else.
+const RANDOM: [u64; 5] = [600_000, 200_000, 300_000, 200_000, 100_000];
 
 struct Words {
     seed: u64,
@@ -41,14 +41,22 @@ struct Words {
     others: Vec<String>,
 }
 
-/// Runs the command of the command line. `in_process` are the backends beside the second program that this binary was built
-/// with: the published crate, and the proved code as a static library.
-pub fn main(in_process: Vec<Maker>) {
+/// Who is asked inside this process, beside the second program: what the binary was built with.
+#[derive(Default)]
+pub struct InProcess {
+    pub published: Option<Maker>,
+    /// The proved code, as a static library for this machine's processor.
+    pub library: Option<Maker>,
+}
+
+/// Runs the command of the command line.
+pub fn main(in_process: InProcess) {
     let mut arguments = std::env::args().skip(1);
     let command = arguments.next().unwrap_or_default();
     let words = words(arguments);
     let probe = words.probe.clone().map(probe_maker);
-    let backends: Vec<&Maker> = in_process.iter().chain(&probe).collect();
+    let InProcess { published, library } = &in_process;
+    let backends: Vec<&Maker> = published.iter().chain(library).chain(&probe).collect();
     let good = match command.as_str() {
         "run" if backends.is_empty() => {
             eprintln!("compare: there is nobody to compare the second program with; --probe names a program");
@@ -66,10 +74,10 @@ pub fn main(in_process: Vec<Maker>) {
             let outcome = run(&plan, over_second::answer, &backends);
             report(&outcome, &backends)
         }
-        "planted" => planted(words.seed, words.threads, in_process.first()),
+        "planted" => planted(words.seed, words.threads, published.as_ref()),
         "sample" => match words.others.as_slice() {
             [folder] => {
-                or_exit(sample::write(Path::new(folder), in_process.first()).map(|()| true))
+                or_exit(sample::write(Path::new(folder), published.as_ref()).map(|()| true))
             }
             _ => usage(),
         },

@@ -1,10 +1,10 @@
 //! Questions read back from bytes: what a program that answers them does first.
 
+use crate::encode::LARGEST;
 use crate::question::{Call, LineLoad, Load, Options, Question, Walk};
 use std::io::{self, Read};
 
 const BODY_LIMIT: usize = 2_162_688;
-const BYTES_LIMIT: usize = 1_048_576;
 const ENDS_LIMIT: usize = 64;
 
 /// What stands next on the input.
@@ -187,7 +187,7 @@ impl Rest<'_> {
     }
 
     fn bytes(&mut self, count: u64) -> Parsed<Vec<u8>> {
-        if count as usize > BYTES_LIMIT {
+        if count as usize > LARGEST {
             return Err("over 1 MiB");
         }
         Ok(self.take(count as usize)?.to_vec())

@@ -2,6 +2,19 @@
 
 use crate::question::{Call, Load, Question};
 
+/// The most bytes of an image or of a guest that the form takes.
+pub const LARGEST: usize = 1 << 20;
+
+/// Whether the form takes the question.
+pub fn fits(question: &Question) -> bool {
+    let image = match question {
+        Question::Elf(load) | Question::Bzimage(load) => &load.image,
+        Question::Note(walk) => &walk.image,
+        Question::Line(_) | Question::LineLoad(_) => return question.guest().len() <= LARGEST,
+    };
+    image.len() <= LARGEST && question.guest().len() <= LARGEST
+}
+
 /// The question with its length in front.
 pub fn framed(question: &Question) -> Vec<u8> {
     let body = body(question);

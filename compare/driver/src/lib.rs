@@ -12,7 +12,7 @@ pub mod examples;
 mod generate;
 mod images;
 mod over_planted;
-mod over_second;
+pub mod over_second;
 mod pipe;
 mod planted_run;
 pub mod question;

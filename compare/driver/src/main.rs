@@ -1,5 +1,7 @@
 //! The comparison without the published crate.
 
+use driver::cli::{self, InProcess};
+
 fn main() {
-    driver::cli::main(Vec::new());
+    cli::main(InProcess::default());
 }

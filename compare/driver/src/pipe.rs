@@ -1,7 +1,7 @@
 //! A program that is asked over a pipe, in the form that `docs/PROBE.md` gives.
 
 use crate::backend::{Backend, Reply};
-use crate::encode::framed;
+use crate::encode::{fits, framed};
 use crate::question::Question;
 use std::io::{BufRead, BufReader, Write};
 use std::process::{Child, ChildStdout, Command, Stdio};
@@ -63,14 +63,16 @@ impl Backend for Pipe {
     }
 
     fn ask_all(&mut self, questions: &[Question]) -> Vec<Reply> {
-        let bytes = questions.iter().flat_map(framed).collect();
+        let taken = questions.iter().filter(|question| fits(question));
+        let bytes = taken.flat_map(framed).collect();
         let sender = self.questions.as_ref().expect("open until it is dropped");
         // a failure shows as missing answers
         let _ = sender.send(bytes);
-        questions
-            .iter()
-            .map(|_| Reply::Line(self.next_line()))
-            .collect()
+        let reply = |question| match fits(question) {
+            true => Reply::Line(self.next_line()),
+            false => Reply::Outside,
+        };
+        questions.iter().map(reply).collect()
     }
 }
 

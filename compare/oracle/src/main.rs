@@ -7,12 +7,15 @@ mod outside;
 mod published;
 
 use driver::backend::Maker;
-use driver::cli;
+use driver::cli::{self, InProcess};
 
 fn main() {
     if std::env::args().nth(1).as_deref() == Some("outside") {
         return outside::show_all();
     }
     let published: Maker = Box::new(|| Box::new(published::Published::default()));
-    cli::main(vec![published]);
+    cli::main(InProcess {
+        published: Some(published),
+        library: None,
+    });
 }

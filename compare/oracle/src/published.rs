@@ -124,3 +124,28 @@ fn pvh(capability: PvhBootCapability) -> Pvh {
         PvhBootCapability::PvhEntryIgnored => Pvh::Ignored,
     }
 }
+
+#[cfg(test)]
+mod tests {
+    use super::*;
+    use driver::{examples, over_second};
+
+    #[test]
+    fn the_crate_answers_the_worked_examples_as_the_second_program_does() {
+        let mut published = Published::default();
+        for question in examples::all() {
+            let wanted = over_second::answer(&question);
+            let reply = published.ask(&question);
+            assert!(matches!(reply, Reply::Answer(_)));
+            assert!(published.agrees(&question, &wanted, &reply), "{reply:?}");
+        }
+    }
+
+    #[test]
+    fn the_crate_is_not_asked_outside_its_domain() {
+        let mut load = examples::small_elf();
+        load.guest.clear();
+        let reply = Published::default().ask(&Question::Elf(load));
+        assert!(matches!(reply, Reply::Outside));
+    }
+}

@@ -2,7 +2,7 @@
 
 use crate::examples::{self, put};
 use crate::generate::elf::options;
-use crate::generate::{damage, guest_length};
+use crate::generate::{damage, guest_length, is_large, large_guest_length};
 use crate::question::Load;
 use crate::rng::Rng;
 
@@ -43,7 +43,9 @@ fn structured(rng: &mut Rng) -> Load {
     } else {
         (usize::from(sectors) + 1) * 512
     };
+    let large = is_large(rng);
     let kernel = match rng.below(8) {
+        _ if large => rng.pick(&[4095, 4096, 65_535, 65_536, 500_000]),
         0 => 0,
         1 => 1,
         _ => rng.length(2, 48),
@@ -57,7 +59,11 @@ fn structured(rng: &mut Rng) -> Load {
     put(&mut image, 0x206, &version.to_le_bytes());
     image[0x211] |= 1;
 
-    let guest = guest_length(rng);
+    let guest = if large {
+        large_guest_length(rng)
+    } else {
+        guest_length(rng)
+    };
     let start = start(rng, guest, kernel);
     put(&mut image, 0x214, &start.to_le_bytes());
     put_mistake(rng, &mut image, setup);

@@ -1,7 +1,7 @@
 //! ELF images and loads of them.
 
 use crate::examples::{self, put};
-use crate::generate::{damage, guest_length, note};
+use crate::generate::{damage, guest_length, is_large, large_guest_length, note};
 use crate::question::{Load, Options};
 use crate::rng::Rng;
 
@@ -9,6 +9,9 @@ const HEADER: usize = 64;
 const PROGRAM_HEADER: usize = 56;
 
 pub fn question(rng: &mut Rng) -> Load {
+    if is_large(rng) {
+        return large(rng);
+    }
     match rng.below(32) {
         0 => random_bytes(rng),
         1..=3 => damaged(rng),
@@ -47,6 +50,54 @@ fn damaged(rng: &mut Rng) -> Load {
     load.guest = rng.bytes(length);
     load.options = options(rng, &[16, length as u64]);
     load
+}
+
+/// An image with many program headers and a long body, whose segments mostly fit.
+fn large(rng: &mut Rng) -> Load {
+    let count = rng.pick(&[5, 40, 200, 1000]);
+    let table = HEADER;
+    let body = table + count * PROGRAM_HEADER;
+    let mut notes = Vec::new();
+    for _ in 0..rng.pick(&[1, 10, 100]) {
+        notes.extend(note::notes(rng));
+    }
+    let before = rng.pick(&[0, 4096, 65_536, 300_000]);
+    let length = body + before + notes.len();
+    let mut image = vec![0; length];
+    rng.fill(&mut image[body..]);
+    put(&mut image, body + before, &notes);
+    let guest = large_guest_length(rng);
+    let plan = Plan {
+        options: Options {
+            offset: rng.one_in(2).then(|| rng.below(64)),
+            highmem: None,
+        },
+        guest: guest as u64,
+        table,
+        body,
+        image: length,
+        notes: (body + before, notes.len()),
+    };
+    put_header(rng, &mut image, guest as u64, count, &plan);
+    for index in 0..count {
+        let entry = &mut image[table + index * PROGRAM_HEADER..];
+        let longest = (guest - 64).min(length - body) as u64;
+        let size = rng.below(longest + 1);
+        let place = body as u64 + rng.below((length - body) as u64 - size + 1);
+        let address = rng.below((guest - 64) as u64 - size + 1);
+        for (field, number) in [(8, place), (24, address), (32, size), (40, size + 7)] {
+            put(entry, field, &number.to_le_bytes());
+        }
+        put(entry, 0, &rng.pick(&[1u32, 1, 1, 0, 6]).to_le_bytes());
+        if rng.one_in(40) {
+            put_program_header(rng, entry, &plan);
+        }
+    }
+    Load {
+        options: plan.options,
+        image,
+        guest: rng.bytes(guest),
+    }
 }
 
 /// What the fields of one image are chosen around.

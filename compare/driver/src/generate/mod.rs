@@ -24,6 +24,16 @@ pub fn random(area: Area, rng: &mut Rng) -> Question {
     }
 }
 
+/// Now and then a question is large: some hundred times the bytes of another, and so asked some thousand times less often.
+fn is_large(rng: &mut Rng) -> bool {
+    rng.one_in(4096)
+}
+
+/// A length of guest memory around a page, 64 KiB or 1 MiB.
+fn large_guest_length(rng: &mut Rng) -> usize {
+    rng.pick(&[4095, 4096, 4097, 65_535, 65_536, 65_537, 1 << 20])
+}
+
 /// A length of guest memory: mostly small, for that is where many addresses meet its end.
 fn guest_length(rng: &mut Rng) -> usize {
     match rng.below(16) {

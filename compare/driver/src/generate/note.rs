@@ -1,6 +1,6 @@
 //! Notes, and walks over them.
 
-use crate::generate::damage;
+use crate::generate::{damage, is_large};
 use crate::question::Walk;
 use crate::rng::Rng;
 
@@ -10,7 +10,12 @@ const GREATEST_SIZE: u64 = 0xffff_fffc;
 pub fn question(rng: &mut Rng) -> Walk {
     let front = rng.length(0, 12);
     let mut image = rng.bytes(front);
-    let notes = notes(rng);
+    let runs = if is_large(rng) {
+        rng.length(50, 500)
+    } else {
+        1
+    };
+    let notes: Vec<u8> = (0..runs).flat_map(|_| notes(rng)).collect();
     image.extend(&notes);
     let rest = rng.length(0, 6);
     image.extend(rng.bytes(rest));
