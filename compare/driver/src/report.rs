@@ -52,25 +52,18 @@ pub fn line_of(question: &Question, reply: &Reply) -> String {
 }
 
 fn last_line(outcome: &Outcome, asked: &[Box<dyn Backend>]) -> String {
-    let cases = Area::ALL.into_iter().zip(outcome.cases);
-    let cases: Vec<_> = cases
-        .map(|(area, count)| format!("{} {count}", area.name()))
-        .collect();
-    let compared = asked.iter().zip(&outcome.compared);
-    let compared: Vec<_> = compared
-        .map(|(backend, count)| format!("{} on {count}", backend.name()))
-        .collect();
-    format!(
-        "cases: {}; second compared with {}; {}; differences: {}",
-        cases.join(", "),
-        if compared.is_empty() {
-            "none".into()
-        } else {
-            compared.join(", ")
-        },
-        reached(outcome),
-        outcome.difference_count
-    )
+    let mut line = format!("cases: {}", counts(&outcome.cases));
+    for (backend, compared) in asked.iter().zip(&outcome.compared) {
+        line += &format!("; {} compared on {}", backend.name(), counts(compared));
+    }
+    let differences = outcome.difference_count;
+    line + &format!("; {}; differences: {differences}", reached(outcome))
+}
+
+fn counts(counts: &[u64; 5]) -> String {
+    let named = Area::ALL.into_iter().zip(counts);
+    let words = named.map(|(area, count)| format!("{} {count}", area.name()));
+    words.collect::<Vec<_>>().join(", ")
 }
 
 /// How often each refusal was wanted: a number that is seldom reached is seldom compared.

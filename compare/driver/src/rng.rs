@@ -12,10 +12,11 @@ impl Rng {
 
     /// A stream of its own for one part of a run.
     pub fn for_part(seed: u64, area: u64, part: u64) -> Rng {
-        let mut rng = Rng::new(seed ^ (area << 56));
-        let start = rng.next() ^ part.wrapping_mul(0x9e6c_63d0_76a0_3ca5);
-        let mut rng = Rng::new(start);
-        let state = rng.next();
+        // each number is mixed in before the next, so that neighbouring parts have nothing in common
+        let mut state = seed;
+        for number in [area, part] {
+            state = Rng::new(state ^ number).next();
+        }
         Rng { state }
     }
 

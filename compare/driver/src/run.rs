@@ -1,7 +1,7 @@
 //! One comparison: many questions, asked of everyone, in parts that threads share out.
 
 use crate::answer::Answer;
-use crate::backend::{Backend, Maker};
+use crate::backend::{Backend, Maker, Reply};
 use crate::generate;
 use crate::question::{Area, Question};
 use crate::rng::Rng;
@@ -41,8 +41,8 @@ pub struct Outcome {
     pub cases: [u64; 5],
     /// How often each refusal was the wanted answer.
     pub numbers: BTreeMap<u8, u64>,
-    /// How many questions each backend was compared on; the others lay outside its domain.
-    pub compared: Vec<u64>,
+    /// How many questions of each area each backend was compared on; the others lay outside its domain.
+    pub compared: Vec<[u64; 5]>,
     pub difference_count: u64,
     /// The first few of each part, in the order of the parts.
     pub differences: Vec<Difference>,
@@ -116,7 +116,7 @@ fn run_part(
     backends: &mut [Box<dyn Backend>],
 ) -> Outcome {
     let mut outcome = Outcome {
-        compared: vec![0; backends.len()],
+        compared: vec![[0; 5]; backends.len()],
         ..Outcome::default()
     };
     let mut batches = batches(plan.seed, area, source);
@@ -165,8 +165,8 @@ impl Outcome {
     ) {
         let replies = backend.ask_all(questions);
         for ((question, answer), reply) in questions.iter().zip(answers).zip(&replies) {
-            if !matches!(reply, crate::backend::Reply::Outside) {
-                self.compared[index] += 1;
+            if !matches!(reply, Reply::Outside) {
+                self.compared[index][question.area() as usize] += 1;
             }
             if !backend.agrees(question, answer, reply) {
                 self.difference_count += 1;
@@ -181,18 +181,22 @@ impl Outcome {
     }
 
     fn add(&mut self, other: Outcome) {
-        for (sum, cases) in self.cases.iter_mut().zip(other.cases) {
-            *sum += cases;
-        }
+        add_counts(&mut self.cases, &other.cases);
         for (number, count) in other.numbers {
             *self.numbers.entry(number).or_default() += count;
         }
-        self.compared.resize(other.compared.len(), 0);
-        for (sum, compared) in self.compared.iter_mut().zip(other.compared) {
-            *sum += compared;
+        self.compared.resize(other.compared.len(), [0; 5]);
+        for (sum, compared) in self.compared.iter_mut().zip(&other.compared) {
+            add_counts(sum, compared);
         }
         self.difference_count += other.difference_count;
         self.differences.extend(other.differences);
+    }
+}
+
+fn add_counts(sums: &mut [u64; 5], counts: &[u64; 5]) {
+    for (sum, count) in sums.iter_mut().zip(counts) {
+        *sum += count;
     }
 }
 
@@ -270,6 +274,6 @@ mod tests {
         assert_eq!(first.numbers, outcome(5, 3).numbers);
         assert_ne!(first.numbers, outcome(6, 1).numbers);
         assert_eq!(first.difference_count, 0);
-        assert_eq!(first.compared, [9920]);
+        assert_eq!(first.compared, [first.cases]);
     }
 }

@@ -23,8 +23,9 @@ fn a_program_that_answers_right_has_no_difference() {
     let said = String::from_utf8(output.stdout).unwrap();
     assert!(output.status.success(), "{said}");
     let last = said.lines().last().unwrap();
-    assert!(last.starts_with("cases: elf 300, note 300, bzimage 30, line 300, load 300;"));
-    assert!(last.contains("probe on 1230;"), "{last}");
+    let counts = "elf 300, note 300, bzimage 30, line 300, load 300";
+    let wanted = format!("cases: {counts}; probe compared on {counts}; numbers reached:");
+    assert!(last.starts_with(&wanted), "{last}");
     assert!(last.ends_with("differences: 0"), "{last}");
 }
 

@@ -44,10 +44,10 @@ fn structured(rng: &mut Rng) -> Load {
         (usize::from(sectors) + 1) * 512
     };
     let large = is_large(rng);
-    let kernel = match rng.below(8) {
+    let kernel = match rng.below(32) {
         _ if large => rng.pick(&[4095, 4096, 65_535, 65_536, 500_000]),
         0 => 0,
-        1 => 1,
+        1..=4 => 1,
         _ => rng.length(2, 48),
     };
     let mut image = vec![0; setup + kernel];

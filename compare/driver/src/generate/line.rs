@@ -13,15 +13,15 @@ struct Follower {
 
 pub fn calls(rng: &mut Rng) -> Vec<Call> {
     let count = rng.length(1, 10);
-    let mut calls = calls_of(rng, count);
+    let (mut calls, _) = calls_of(rng, count);
     if rng.one_in(2) {
         calls.push(Call::AsCstring { room: 4096 });
     }
     calls
 }
 
-/// Some calls on a line, the first of which makes it.
-pub fn calls_of(rng: &mut Rng, count: usize) -> Vec<Call> {
+/// Some calls on a line, the first of which makes it, and the line after them.
+pub fn calls_of(rng: &mut Rng, count: usize) -> (Vec<Call>, Line) {
     let mut follower = Follower {
         line: Line::new(1).expect("1 is a capacity"),
         capacity: 1,
@@ -40,7 +40,7 @@ pub fn calls_of(rng: &mut Rng, count: usize) -> Vec<Call> {
         follower.follow(&call);
         calls.push(call);
     }
-    calls
+    (calls, follower.line)
 }
 
 fn capacity(rng: &mut Rng) -> u32 {

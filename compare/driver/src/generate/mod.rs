@@ -36,10 +36,10 @@ fn large_guest_length(rng: &mut Rng) -> usize {
 
 /// A length of guest memory: mostly small, for that is where many addresses meet its end.
 fn guest_length(rng: &mut Rng) -> usize {
-    match rng.below(16) {
+    match rng.below(64) {
         0 => 0,
-        1 => 1,
-        2 => rng.length(65, 300),
+        1..=4 => 1,
+        5..=8 => rng.length(65, 300),
         _ => rng.length(2, 64),
     }
 }

@@ -43,7 +43,7 @@ fn blanks_around(rng: &mut Rng, text: &mut Vec<u8>) {
 
 /// A byte above 127, which only the rules and not the published crate speak of.
 fn high_byte(rng: &mut Rng, text: &mut [u8]) {
-    if !text.is_empty() && rng.one_in(200) {
+    if !text.is_empty() && rng.one_in(1000) {
         let place = rng.length(0, text.len() - 1);
         text[place] = 128 + rng.below(128) as u8;
     }
