@@ -13,6 +13,7 @@ use crate::stand_in;
 use std::io::{stdin, stdout};
 use std::path::Path;
 use std::process::exit;
+use std::thread::available_parallelism;
 
 const USAGE: &str = "\
 compare run [WORDS]       asks everyone the same questions and compares all answers
@@ -22,7 +23,7 @@ compare images FILE..     loads real images by everyone and compares
 compare answer            answers questions from standard input with the second program
 
 --seed N                  the seed, 1 where none is given: one seed, one result
---threads N               how many threads ask, 2 where none is given
+--threads N               how many threads ask, one for each processor where none is given
 --elf N --note N --bzimage N --line N --load N
                           how many random questions of each area, beside the exhaustive ones
 --exhaustive N            how many sixteenths of the exhaustive questions are asked, all 16 where none is given
@@ -93,7 +94,7 @@ pub fn main(in_process: InProcess) {
 fn words(arguments: impl Iterator<Item = String>) -> Words {
     let mut words = Words {
         seed: 1,
-        threads: 2,
+        threads: available_parallelism().map_or(2, usize::from),
         random: RANDOM,
         exhaustive: EXHAUSTIVE_PARTS,
         probe: None,

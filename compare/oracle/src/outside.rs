@@ -72,6 +72,14 @@ fn empty_kernels() {
             loaded::<BzImage>(&with_guest(empty(), guest)),
         );
     }
+    let load = with_guest(empty(), 3);
+    let last = Some(GuestAddress(u64::MAX));
+    let answer = BzImage::load(&memory_of(&load), last, &mut Cursor::new(&load.image), None);
+    say(
+        "bzImage, a kernel of 0 bytes, offset 2^64 - 1, 3 guest bytes",
+        "load and end 2^64 - 1, nothing written",
+        outcome(Some(answer.map_err(numbers::of_loader))),
+    );
 }
 
 fn empty_guests() {
