@@ -43,10 +43,10 @@ pub fn planted(seed: u64, threads: usize, published: Option<&Maker>) -> bool {
             words.push(if noticed {
                 format!("{name} within {cases} cases")
             } else {
-                format!("NOT by {name} in {cases} cases")
+                format!("{name} NOT in {cases} cases")
             });
         }
-        println!("{file}: {what}: noticed by {}", words.join(", "));
+        println!("{file}: {what}: noticed by {}", words.join(", by "));
     }
     planted::switch_on(usize::MAX);
 

@@ -3,12 +3,12 @@
 use crate::backend::{Backend, Maker, Reply};
 use crate::over_second;
 use crate::question::{Area, Question};
-use crate::run::Outcome;
+use crate::run::{Difference, Outcome};
 use crate::show::show;
 use crate::shrink::shrink;
 
-/// How many differences are made small and printed.
-const SHOWN: usize = 8;
+/// How many differences of each area are made small and printed.
+const SHOWN: usize = 3;
 
 /// Every number of the rules that questions of ordinary sizes can reach; 60 needs a slice of more than 2^40 bytes.
 const REACHABLE: [u8; 32] = [
@@ -19,9 +19,16 @@ const REACHABLE: [u8; 32] = [
 /// Prints the differences, each made small, and the last line; answers whether there was none.
 pub fn report(outcome: &Outcome, backends: &[&Maker]) -> bool {
     let mut asked: Vec<_> = backends.iter().map(|make| make()).collect();
-    for difference in outcome.differences.iter().take(SHOWN) {
-        let backend = asked[difference.backend].as_mut();
-        println!("{}", difference_text(difference.question.clone(), backend));
+    for area in Area::ALL {
+        let mut texts = Vec::new();
+        let of_area = |difference: &&Difference| difference.question.area() == area;
+        for difference in outcome.differences.iter().filter(of_area).take(SHOWN) {
+            let backend = asked[difference.backend].as_mut();
+            texts.push(difference_text(difference.question.clone(), backend));
+        }
+        // differences of one kind often shrink to the same question
+        texts.dedup();
+        texts.iter().for_each(|text| println!("{text}"));
     }
     println!("{}", frequencies(outcome));
     println!("{}", last_line(outcome, &asked));

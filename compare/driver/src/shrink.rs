@@ -104,7 +104,7 @@ fn smaller_numbers(number: u64) -> impl Iterator<Item = u64> {
         .filter(move |smaller| *smaller < number)
 }
 
-/// Shorter bytes, then the same length with runs of bytes, and single ones, made 0.
+/// Shorter bytes, then the same length with runs of bytes, and single ones, made 0, then with single ones made 1.
 fn smaller_bytes(bytes: &[u8]) -> impl Iterator<Item = Vec<u8>> + '_ {
     let length = bytes.len();
     let halves = std::iter::successors(Some(length), |size| Some(size / 2));
@@ -122,7 +122,13 @@ fn smaller_bytes(bytes: &[u8]) -> impl Iterator<Item = Vec<u8>> + '_ {
             })
         })
     });
-    cut.chain(zeroed)
+    let ones = (0..length).filter(move |place| bytes[*place] > 1);
+    let ones = ones.map(move |place| {
+        let mut smaller = bytes.to_vec();
+        smaller[place] = 1;
+        smaller
+    });
+    cut.chain(zeroed).chain(ones)
 }
 
 fn smaller_calls(calls: &[Call]) -> impl Iterator<Item = Vec<Call>> + '_ {

@@ -9,6 +9,7 @@ pub fn line() -> impl Iterator<Item = Vec<Call>> {
         .chain(each_whole_text())
         .chain(each_three_lengths())
         .chain(each_list())
+        .chain(each_pair())
         .chain(each_device())
 }
 
@@ -143,6 +144,21 @@ fn each_list() -> impl Iterator<Item = Vec<Call>> {
                 })
             })
         })
+}
+
+/// Every two of some lines, asked whether they are equal: those that can be written, that have init text alone, or a zero byte.
+fn each_pair() -> impl Iterator<Item = Vec<Call>> {
+    const LINES: [&[u8]; 12] = [
+        b"", b"a", b"b", b"a -- b", b"a -- c", b"a--b", b" -- b", b" -- c", b"a\0", b"b\0",
+        b"a -- \0", b" -- \0",
+    ];
+    let made = |text: &[u8], capacity| Call::TryFrom {
+        capacity,
+        text: text.to_vec(),
+    };
+    LINES.into_iter().flat_map(move |kept| {
+        LINES.map(|other| vec![made(kept, 16), Call::Keep, made(other, 32), Call::IsEqual])
+    })
 }
 
 /// Sizes at and around every power of two, at capacities around what the text needs.
