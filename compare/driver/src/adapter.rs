@@ -1,0 +1,120 @@
+//! Asks a program that has the second program's functions. It stands over the second program itself and over the copy with planted
+//! mistakes: the module above names which as `program`.
+
+use super::program::{bzimage, elf, line::Line, loading, note, Refusal};
+use crate::answer::{Answer, BzimageLoaded, CallAnswer, ElfLoaded, NoteWalked, Pvh};
+use crate::question::{Call, Load, Question, Walk};
+
+/// What an untouched byte of a lent output holds.
+const UNTOUCHED: u8 = 0xe7;
+
+pub fn answer(question: &Question) -> Answer {
+    match question {
+        Question::Elf(load) => answer_elf(load),
+        Question::Note(walk) => Answer::Note(answer_note(walk)),
+        Question::Bzimage(load) => answer_bzimage(load),
+        Question::Line(calls) => Answer::Line(answer_calls(calls).0),
+        Question::LineLoad(load) => {
+            let (calls, line) = answer_calls(&load.calls);
+            let mut guest = load.guest.clone();
+            let outcome = loading::load_line(&mut guest, load.address, &line);
+            let outcome = outcome.map_err(Refusal::number);
+            Answer::LineLoad {
+                calls,
+                outcome,
+                guest,
+            }
+        }
+    }
+}
+
+fn answer_elf(load: &Load) -> Answer {
+    let mut guest = load.guest.clone();
+    let options = load.options;
+    let outcome = elf::load(&load.image, &mut guest, options.offset, options.highmem);
+    let outcome = outcome.map_err(Refusal::number).map(|loaded| ElfLoaded {
+        load: loaded.load,
+        end: loaded.end,
+        pvh: pvh(loaded.pvh),
+    });
+    Answer::Elf { outcome, guest }
+}
+
+fn answer_note(walk: &Walk) -> Result<NoteWalked, u8> {
+    let walked = note::walk(&walk.image, walk.place, walk.size).map_err(Refusal::number)?;
+    Ok(NoteWalked {
+        pvh: pvh(walked.pvh),
+        headers: Some(walked.headers),
+    })
+}
+
+fn pvh(pvh: note::Pvh) -> Pvh {
+    match pvh {
+        note::Pvh::Present(address) => Pvh::At(address),
+        note::Pvh::NotPresent => Pvh::None,
+        note::Pvh::Ignored => Pvh::Ignored,
+    }
+}
+
+fn answer_bzimage(load: &Load) -> Answer {
+    let mut guest = load.guest.clone();
+    let options = load.options;
+    let outcome = bzimage::load(&load.image, &mut guest, options.offset, options.highmem);
+    let outcome = outcome
+        .map_err(Refusal::number)
+        .map(|loaded| BzimageLoaded {
+            load: loaded.load,
+            end: loaded.end,
+            header: loaded.header.to_vec(),
+        });
+    Answer::Bzimage { outcome, guest }
+}
+
+fn answer_calls(calls: &[Call]) -> (Vec<CallAnswer>, Line) {
+    let mut line = Line::new(1).expect("1 is a capacity");
+    let mut kept = line.clone();
+    let mut answers = Vec::with_capacity(calls.len());
+    for call in calls {
+        answers.push(answer_call(call, &mut line, &mut kept));
+    }
+    (answers, line)
+}
+
+fn answer_call(call: &Call, line: &mut Line, kept: &mut Line) -> CallAnswer {
+    let outcome = match call {
+        Call::New { capacity } => Line::new((*capacity).into()).map(|made| *line = made),
+        Call::InsertStr(text) => line.insert_str(text),
+        Call::InsertInitArgs(text) => line.insert_init_args(text),
+        Call::Insert { key, value } => line.insert(key, value),
+        Call::InsertMultiple { key, ends, values } => line.insert_multiple(key, ends, values),
+        Call::AddDevice {
+            size,
+            address,
+            irq,
+            id,
+        } => line.add_virtio_mmio_device(*size, *address, *irq, *id),
+        Call::TryFrom { capacity, text } => {
+            Line::try_from(text, (*capacity).into()).map(|made| *line = made)
+        }
+        Call::AsCstring { room } => return written(line, *room as usize),
+        Call::Keep => {
+            *kept = line.clone();
+            Ok(())
+        }
+        Call::IsEqual => return CallAnswer::Equal(line == kept),
+    };
+    match outcome {
+        Ok(()) => CallAnswer::Ok,
+        Err(refusal) => CallAnswer::Refused(refusal.number()),
+    }
+}
+
+fn written(line: &Line, room: usize) -> CallAnswer {
+    let mut output = vec![UNTOUCHED; room];
+    let outcome = line.write_to(&mut output).map_err(Refusal::number);
+    let others = *outcome.as_ref().unwrap_or(&0);
+    let spoilt = output[others..].iter().any(|byte| *byte != UNTOUCHED);
+    output.truncate(others);
+    let outcome = outcome.map(|_| output);
+    CallAnswer::Written { outcome, spoilt }
+}

@@ -1,0 +1,242 @@
+//! What is answered, and the line of text that says it.
+
+use std::fmt::Write;
+
+/// The number that stands for an error to which the rules give no number. None is ever expected.
+pub const UNNUMBERED: u8 = 255;
+
+#[derive(Clone, Copy, Debug, PartialEq, Eq)]
+pub enum Pvh {
+    Ignored,
+    None,
+    At(u64),
+}
+
+#[derive(Clone, Debug, PartialEq, Eq)]
+pub struct ElfLoaded {
+    pub load: u64,
+    pub end: u64,
+    pub pvh: Pvh,
+}
+
+#[derive(Clone, Debug, PartialEq, Eq)]
+pub struct NoteWalked {
+    pub pvh: Pvh,
+    /// How many note headers were read; the published crate does not tell.
+    pub headers: Option<u64>,
+}
+
+#[derive(Clone, Debug, PartialEq, Eq)]
+pub struct BzimageLoaded {
+    pub load: u64,
+    pub end: u64,
+    pub header: Vec<u8>,
+}
+
+#[derive(Clone, Debug, PartialEq, Eq)]
+pub enum CallAnswer {
+    Ok,
+    Refused(u8),
+    /// What `as_cstring` wrote with its zero, or its refusal, and whether it changed any other byte of the lent output.
+    Written {
+        outcome: Result<Vec<u8>, u8>,
+        spoilt: bool,
+    },
+    Equal(bool),
+    /// A call that the published crate is not asked, for its rules differ there by intent.
+    Unasked,
+}
+
+/// An answer; `guest` is the guest's whole content afterwards.
+#[derive(Clone, Debug, PartialEq, Eq)]
+pub enum Answer {
+    Elf {
+        outcome: Result<ElfLoaded, u8>,
+        guest: Vec<u8>,
+    },
+    Note(Result<NoteWalked, u8>),
+    Bzimage {
+        outcome: Result<BzimageLoaded, u8>,
+        guest: Vec<u8>,
+    },
+    Line(Vec<CallAnswer>),
+    LineLoad {
+        calls: Vec<CallAnswer>,
+        outcome: Result<(), u8>,
+        guest: Vec<u8>,
+    },
+}
+
+impl Answer {
+    /// The line that the probe writes for this answer, without its line feed. `before` is the guest's first content.
+    pub fn line(&self, before: &[u8]) -> String {
+        let mut line = String::new();
+        match self {
+            Answer::Elf { outcome, guest } => {
+                line += "elf";
+                match outcome {
+                    Ok(loaded) => {
+                        let (load, end) = (loaded.load, loaded.end);
+                        line += &format!(" ok {load} {end} pvh {}", pvh(loaded.pvh));
+                    }
+                    Err(number) => line += &format!(" refused {number}"),
+                }
+                put_guest(&mut line, before, guest);
+            }
+            Answer::Note(Ok(walked)) => {
+                let headers = walked.headers.map_or("?".into(), |count| count.to_string());
+                line += &format!("note ok pvh {} headers {headers}", pvh(walked.pvh));
+            }
+            Answer::Note(Err(number)) => line += &format!("note refused {number}"),
+            Answer::Bzimage { outcome, guest } => {
+                line += "bzimage";
+                match outcome {
+                    Ok(loaded) => {
+                        let (load, end) = (loaded.load, loaded.end);
+                        line += &format!(" ok {load} {end} header {}", hex(&loaded.header));
+                    }
+                    Err(number) => line += &format!(" refused {number}"),
+                }
+                put_guest(&mut line, before, guest);
+            }
+            Answer::Line(calls) => put_calls(&mut line, calls),
+            Answer::LineLoad {
+                calls,
+                outcome,
+                guest,
+            } => {
+                put_calls(&mut line, calls);
+                match outcome {
+                    Ok(()) => line += " load ok",
+                    Err(number) => line += &format!(" load {number}"),
+                }
+                put_guest(&mut line, before, guest);
+            }
+        }
+        line
+    }
+
+    /// Every refusal's number in this answer.
+    pub fn numbers(&self) -> Vec<u8> {
+        let mut numbers = Vec::new();
+        match self {
+            Answer::Elf { outcome, .. } => numbers.extend(outcome.as_ref().err()),
+            Answer::Note(outcome) => numbers.extend(outcome.as_ref().err()),
+            Answer::Bzimage { outcome, .. } => numbers.extend(outcome.as_ref().err()),
+            Answer::Line(calls) => numbers.extend(calls.iter().filter_map(refusal)),
+            Answer::LineLoad { calls, outcome, .. } => {
+                numbers.extend(calls.iter().filter_map(refusal));
+                numbers.extend(outcome.err());
+            }
+        }
+        numbers
+    }
+}
+
+fn refusal(call: &CallAnswer) -> Option<u8> {
+    match call {
+        CallAnswer::Refused(number) => Some(*number),
+        CallAnswer::Written { outcome, .. } => outcome.as_ref().err().copied(),
+        _ => None,
+    }
+}
+
+fn put_calls(line: &mut String, calls: &[CallAnswer]) {
+    *line += "line";
+    for call in calls {
+        *line += &match call {
+            CallAnswer::Ok => " ok".into(),
+            CallAnswer::Refused(number) => format!(" {number}"),
+            CallAnswer::Written { outcome, spoilt } => {
+                let spoilt = if *spoilt { " spoilt" } else { "" };
+                match outcome {
+                    Ok(bytes) => format!(" ok:{}{spoilt}", hex(bytes)),
+                    Err(number) => format!(" {number}{spoilt}"),
+                }
+            }
+            CallAnswer::Equal(true) => " equal".into(),
+            CallAnswer::Equal(false) => " unequal".into(),
+            CallAnswer::Unasked => " ?".into(),
+        };
+    }
+}
+
+fn pvh(pvh: Pvh) -> String {
+    match pvh {
+        Pvh::Ignored => "ignored".into(),
+        Pvh::None => "none".into(),
+        Pvh::At(address) => format!("at {address}"),
+    }
+}
+
+pub fn hex(bytes: &[u8]) -> String {
+    let mut text = String::with_capacity(2 * bytes.len());
+    for byte in bytes {
+        write!(text, "{byte:02x}").expect("a string takes what is written to it");
+    }
+    text
+}
+
+/// The guest's length, its sum, and how many bytes changed, with the first and the last of them.
+fn put_guest(line: &mut String, before: &[u8], after: &[u8]) {
+    let changed = || (0..after.len()).filter(|place| before[*place] != after[*place]);
+    let (count, first, last) = (changed().count(), changed().next(), changed().last());
+    let (first, last) = (first.unwrap_or(0), last.unwrap_or(0));
+    let (length, sum) = (after.len(), sum(after));
+    *line += &format!(" guest {length} {sum} {count} {first} {last}");
+}
+
+/// The modulus is prime, so one changed byte always changes the sum.
+fn sum(bytes: &[u8]) -> u64 {
+    bytes.iter().fold(0, |sum, byte| {
+        (sum * 257 + u64::from(*byte)) % 4_294_967_291
+    })
+}
+
+#[cfg(test)]
+mod tests {
+    use super::*;
+
+    #[test]
+    fn an_elf_answer_reads_as_documented() {
+        let loaded = ElfLoaded {
+            load: 16,
+            end: 24,
+            pvh: Pvh::At(5),
+        };
+        let answer = Answer::Elf {
+            outcome: Ok(loaded),
+            guest: vec![1, 9, 3, 9],
+        };
+        let sum = ((257 + 9) * 257 + 3) * 257 + 9;
+        let wanted = format!("elf ok 16 24 pvh at 5 guest 4 {sum} 2 1 3");
+        assert_eq!(answer.line(&[1, 2, 3, 4]), wanted);
+    }
+
+    #[test]
+    fn a_refused_load_still_tells_of_the_guest() {
+        let answer = Answer::Bzimage {
+            outcome: Err(24),
+            guest: vec![],
+        };
+        assert_eq!(answer.line(&[]), "bzimage refused 24 guest 0 0 0 0 0");
+        assert_eq!(answer.numbers(), [24]);
+    }
+
+    #[test]
+    fn calls_are_answered_in_turn() {
+        let written = |outcome, spoilt| CallAnswer::Written { outcome, spoilt };
+        let calls = vec![
+            CallAnswer::Ok,
+            CallAnswer::Refused(47),
+            written(Ok(vec![b'a', 0]), false),
+            written(Err(62), true),
+            CallAnswer::Equal(true),
+            CallAnswer::Equal(false),
+        ];
+        let answer = Answer::Line(calls);
+        let wanted = "line ok 47 ok:6100 62 spoilt equal unequal";
+        assert_eq!(answer.line(&[]), wanted);
+        assert_eq!(answer.numbers(), [47, 62]);
+    }
+}

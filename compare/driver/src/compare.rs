@@ -1,0 +1,146 @@
+//! Whether two replies to one question agree.
+
+use crate::answer::{Answer, CallAnswer, NoteWalked};
+use crate::backend::Reply;
+use crate::domain;
+use crate::question::Question;
+
+/// Whether a backend's reply agrees with the second program's answer.
+pub fn agrees(question: &Question, wanted: &Answer, reply: &Reply) -> bool {
+    match reply {
+        Reply::Outside => true,
+        Reply::Line(line) => *line == wanted.line(question.guest()),
+        Reply::Answer(answer) => answers_agree(wanted, answer),
+    }
+}
+
+/// Whether the crate's reply agrees, but for where a failed copy was to go.
+pub fn agrees_but_for_failed_copy(question: &Question, wanted: &Answer, reply: &Reply) -> bool {
+    match reply {
+        Reply::Answer(answer) if !domain::failed_copy(question, wanted).is_empty() => {
+            answers_agree(wanted, &without_failed_copy(question, answer, wanted))
+        }
+        _ => agrees(question, wanted, reply),
+    }
+}
+
+/// The crate's answer, with what stands where a failed copy was to go taken from the second program's.
+fn without_failed_copy(question: &Question, answer: &Answer, wanted: &Answer) -> Answer {
+    let unwritten = domain::failed_copy(question, wanted);
+    let mut answer = answer.clone();
+    match (&mut answer, wanted) {
+        (Answer::Elf { guest, .. }, Answer::Elf { guest: other, .. })
+        | (Answer::Bzimage { guest, .. }, Answer::Bzimage { guest: other, .. }) => {
+            guest[unwritten.clone()].copy_from_slice(&other[unwritten]);
+        }
+        _ => {}
+    }
+    answer
+}
+
+/// Equal in everything that both tell.
+fn answers_agree(wanted: &Answer, other: &Answer) -> bool {
+    match (wanted, other) {
+        (Answer::Note(Ok(wanted)), Answer::Note(Ok(other))) => walks_agree(wanted, other),
+        (Answer::Line(wanted), Answer::Line(other)) => calls_agree(wanted, other),
+        (
+            Answer::LineLoad {
+                calls,
+                outcome,
+                guest,
+            },
+            Answer::LineLoad {
+                calls: other_calls,
+                outcome: other_outcome,
+                guest: other_guest,
+            },
+        ) => calls_agree(calls, other_calls) && outcome == other_outcome && guest == other_guest,
+        _ => wanted == other,
+    }
+}
+
+fn walks_agree(wanted: &NoteWalked, other: &NoteWalked) -> bool {
+    wanted.pvh == other.pvh && (other.headers.is_none() || wanted.headers == other.headers)
+}
+
+fn calls_agree(wanted: &[CallAnswer], other: &[CallAnswer]) -> bool {
+    let agree = |(wanted, other)| other == &CallAnswer::Unasked || wanted == other;
+    wanted.len() == other.len() && wanted.iter().zip(other).all(agree)
+}
+
+/// The crate's answer with what it does not tell, or what lies outside its domain, taken from the second program's.
+pub fn completed(question: &Question, crate_answer: &Answer, second_answer: &Answer) -> Answer {
+    let mut whole = without_failed_copy(question, crate_answer, second_answer);
+    match (&mut whole, second_answer) {
+        (Answer::Note(Ok(walked)), Answer::Note(Ok(other))) => walked.headers = other.headers,
+        (Answer::Line(calls), Answer::Line(others)) => complete_calls(calls, others),
+        (Answer::LineLoad { calls, .. }, Answer::LineLoad { calls: others, .. }) => {
+            complete_calls(calls, others);
+        }
+        _ => {}
+    }
+    whole
+}
+
+fn complete_calls(calls: &mut [CallAnswer], others: &[CallAnswer]) {
+    for (call, other) in calls.iter_mut().zip(others) {
+        if *call == CallAnswer::Unasked {
+            call.clone_from(other);
+        }
+    }
+}
+
+#[cfg(test)]
+mod tests {
+    use super::*;
+    use crate::answer::Pvh;
+    use crate::examples;
+    use crate::over_second;
+
+    #[test]
+    fn one_changed_guest_byte_is_a_difference() {
+        let question = Question::Elf(examples::small_elf());
+        let wanted = over_second::answer(&question);
+        assert!(agrees(&question, &wanted, &Reply::Answer(wanted.clone())));
+        let mut changed = wanted.clone();
+        if let Answer::Elf { guest, .. } = &mut changed {
+            guest[3] ^= 1;
+        }
+        assert!(!agrees(&question, &wanted, &Reply::Answer(changed)));
+    }
+
+    #[test]
+    fn a_part_written_segment_is_forgiven_the_crate_but_no_other_byte() {
+        let mut load = examples::small_elf();
+        load.guest.truncate(18);
+        let question = Question::Elf(load);
+        let wanted = over_second::answer(&question);
+        for (place, forgiven) in [(16, true), (17, true), (15, false)] {
+            let mut changed = wanted.clone();
+            if let Answer::Elf { guest, .. } = &mut changed {
+                guest[place] ^= 1;
+            }
+            let reply = Reply::Answer(changed);
+            assert!(!agrees(&question, &wanted, &reply));
+            let agrees = agrees_but_for_failed_copy(&question, &wanted, &reply);
+            assert_eq!(agrees, forgiven, "byte {place}");
+        }
+    }
+
+    #[test]
+    fn what_is_not_told_is_not_compared_and_can_be_completed() {
+        let walked = |headers| {
+            let pvh = Pvh::None;
+            Answer::Note(Ok(NoteWalked { pvh, headers }))
+        };
+        assert!(answers_agree(&walked(Some(2)), &walked(None)));
+        assert!(!answers_agree(&walked(Some(2)), &walked(Some(3))));
+        let question = &Question::Line(vec![]);
+        let whole = completed(question, &walked(None), &walked(Some(2)));
+        assert_eq!(whole, walked(Some(2)));
+        let told = Answer::Line(vec![CallAnswer::Refused(61), CallAnswer::Ok]);
+        let untold = Answer::Line(vec![CallAnswer::Unasked, CallAnswer::Ok]);
+        assert!(answers_agree(&told, &untold));
+        assert_eq!(completed(question, &untold, &told), told);
+    }
+}

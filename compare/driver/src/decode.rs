@@ -1,0 +1,247 @@
+//! Questions read back from bytes: what a program that answers them does first.
+
+use crate::encode::LARGEST;
+use crate::question::{Call, LineLoad, Load, Options, Question, Walk};
+use std::io::{self, Read};
+
+const BODY_LIMIT: usize = 2_162_688;
+const ENDS_LIMIT: usize = 64;
+
+/// What stands next on the input.
+#[derive(Debug, PartialEq, Eq)]
+pub enum Next {
+    Question(Question),
+    Malformed(&'static str),
+    /// The input ends inside a question, so nothing can follow.
+    CutShort,
+    End,
+}
+
+/// Reads the next question.
+pub fn next(input: &mut impl Read) -> io::Result<Next> {
+    let mut length = [0; 4];
+    match read_up_to(input, &mut length)? {
+        0 => return Ok(Next::End),
+        4 => {}
+        _ => return Ok(Next::CutShort),
+    }
+    let length = u32::from_le_bytes(length) as usize;
+    if length > BODY_LIMIT {
+        let passed = io::copy(&mut input.take(length as u64), &mut io::sink())?;
+        let whole = passed == length as u64;
+        return Ok(if whole {
+            Next::Malformed("too long")
+        } else {
+            Next::CutShort
+        });
+    }
+    let mut body = vec![0; length];
+    if read_up_to(input, &mut body)? < length {
+        return Ok(Next::CutShort);
+    }
+    Ok(match question(&body) {
+        Ok(question) => Next::Question(question),
+        Err(what) => Next::Malformed(what),
+    })
+}
+
+fn read_up_to(input: &mut impl Read, bytes: &mut [u8]) -> io::Result<usize> {
+    let mut filled = 0;
+    while filled < bytes.len() {
+        match input.read(&mut bytes[filled..]) {
+            Ok(0) => break,
+            Ok(count) => filled += count,
+            Err(error) if error.kind() == io::ErrorKind::Interrupted => {}
+            Err(error) => return Err(error),
+        }
+    }
+    Ok(filled)
+}
+
+type Parsed<T> = Result<T, &'static str>;
+
+/// The question that a body holds, or what is wrong with it.
+pub fn question(body: &[u8]) -> Parsed<Question> {
+    let mut rest = Rest(body);
+    let kind = rest.number::<1>()?;
+    Ok(match kind {
+        1 => Question::Elf(load(rest)?),
+        2 => Question::Note(Walk {
+            place: rest.number::<8>()?,
+            size: rest.number::<8>()?,
+            image: rest.0.to_vec(),
+        }),
+        3 => Question::Bzimage(load(rest)?),
+        4 => Question::Line(calls(rest)?),
+        5 => {
+            let address = rest.number::<8>()?;
+            let guest = rest.number::<4>()?;
+            let guest = rest.bytes(guest)?;
+            let calls = calls(rest)?;
+            Question::LineLoad(LineLoad {
+                address,
+                guest,
+                calls,
+            })
+        }
+        _ => return Err("unknown kind"),
+    })
+}
+
+fn load(mut rest: Rest) -> Parsed<Load> {
+    let flags = rest.number::<1>()?;
+    let (offset, highmem) = (rest.number::<8>()?, rest.number::<8>()?);
+    let (image, guest) = (rest.number::<4>()?, rest.number::<4>()?);
+    if flags > 3 {
+        return Err("unknown flags");
+    }
+    let load = Load {
+        options: Options {
+            offset: (flags & 1 != 0).then_some(offset),
+            highmem: (flags & 2 != 0).then_some(highmem),
+        },
+        image: rest.bytes(image)?,
+        guest: rest.bytes(guest)?,
+    };
+    if !rest.0.is_empty() {
+        return Err("bytes left over");
+    }
+    Ok(load)
+}
+
+fn calls(mut rest: Rest) -> Parsed<Vec<Call>> {
+    let mut calls = Vec::new();
+    while !rest.0.is_empty() {
+        calls.push(call(&mut rest)?);
+    }
+    Ok(calls)
+}
+
+fn call(rest: &mut Rest) -> Parsed<Call> {
+    Ok(match rest.number::<1>()? {
+        1 => Call::New {
+            capacity: rest.number::<4>()? as u32,
+        },
+        2 => Call::InsertStr(rest.text()?),
+        3 => Call::InsertInitArgs(rest.text()?),
+        4 => {
+            let (key, value) = (rest.number::<2>()?, rest.number::<2>()?);
+            Call::Insert {
+                key: rest.bytes(key)?,
+                value: rest.bytes(value)?,
+            }
+        }
+        5 => {
+            let (key, ends) = (rest.number::<2>()?, rest.number::<2>()?);
+            let values = rest.number::<2>()?;
+            if ends as usize > ENDS_LIMIT {
+                return Err("too many ends");
+            }
+            let key = rest.bytes(key)?;
+            let ends = (0..ends).map(|_| Ok(rest.number::<4>()? as u32));
+            let ends = ends.collect::<Parsed<Vec<u32>>>()?;
+            let values = rest.bytes(values)?;
+            Call::InsertMultiple { key, ends, values }
+        }
+        6 => {
+            let (size, address) = (rest.number::<8>()?, rest.number::<8>()?);
+            let irq = rest.number::<4>()? as u32;
+            let (given, id) = (rest.number::<1>()?, rest.number::<4>()? as u32);
+            Call::AddDevice {
+                size,
+                address,
+                irq,
+                id: (given != 0).then_some(id),
+            }
+        }
+        7 => Call::TryFrom {
+            capacity: rest.number::<4>()? as u32,
+            text: rest.text()?,
+        },
+        8 => Call::AsCstring {
+            room: rest.number::<4>()? as u32,
+        },
+        9 => Call::Keep,
+        10 => Call::IsEqual,
+        _ => return Err("unknown call"),
+    })
+}
+
+/// The bytes of a body that are not read yet.
+struct Rest<'a>(&'a [u8]);
+
+impl Rest<'_> {
+    fn take(&mut self, count: usize) -> Parsed<&[u8]> {
+        if self.0.len() < count {
+            return Err("too short");
+        }
+        let (taken, left) = self.0.split_at(count);
+        self.0 = left;
+        Ok(taken)
+    }
+
+    fn number<const SIZE: usize>(&mut self) -> Parsed<u64> {
+        let mut bytes = [0; 8];
+        bytes[..SIZE].copy_from_slice(self.take(SIZE)?);
+        Ok(u64::from_le_bytes(bytes))
+    }
+
+    fn bytes(&mut self, count: u64) -> Parsed<Vec<u8>> {
+        if count as usize > LARGEST {
+            return Err("over 1 MiB");
+        }
+        Ok(self.take(count as usize)?.to_vec())
+    }
+
+    fn text(&mut self) -> Parsed<Vec<u8>> {
+        let length = self.number::<2>()?;
+        self.bytes(length)
+    }
+}
+
+#[cfg(test)]
+mod tests {
+    use super::*;
+    use crate::encode::framed;
+    use crate::generate;
+    use crate::question::Area;
+    use crate::rng::Rng;
+
+    #[test]
+    fn what_is_encoded_is_read_back() {
+        for area in Area::ALL {
+            for seed in 0..300 {
+                let question = generate::random(area, &mut Rng::new(seed));
+                let bytes = framed(&question);
+                let read = next(&mut &bytes[..]).unwrap();
+                assert_eq!(read, Next::Question(question));
+            }
+        }
+    }
+
+    #[test]
+    fn a_malformed_question_is_named_and_the_next_one_still_read() {
+        let keep = framed(&Question::Line(vec![Call::Keep]));
+        let mut input = [&[1, 0, 0, 0, 77][..], &[0, 0, 0, 0], &keep, &[9, 0]].concat();
+        input.splice(0..0, [2, 0, 0, 0, 4, 99]);
+        let mut input = &input[..];
+        let mut read = || next(&mut input).unwrap();
+        assert_eq!(read(), Next::Malformed("unknown call"));
+        assert_eq!(read(), Next::Malformed("unknown kind"));
+        assert_eq!(read(), Next::Malformed("too short"));
+        assert_eq!(read(), Next::Question(Question::Line(vec![Call::Keep])));
+        assert_eq!(read(), Next::CutShort);
+        assert_eq!(read(), Next::End);
+    }
+
+    #[test]
+    fn a_body_over_the_limit_is_passed_over() {
+        let length = BODY_LIMIT + 1;
+        let mut input = (length as u32).to_le_bytes().to_vec();
+        input.extend(vec![0; length]);
+        let mut whole = &input[..];
+        assert_eq!(next(&mut whole).unwrap(), Next::Malformed("too long"));
+        assert_eq!(next(&mut whole).unwrap(), Next::End);
+        assert_eq!(next(&mut &input[..9]).unwrap(), Next::CutShort);
+    }
+}

@@ -1,0 +1,141 @@
+//! Questions as bytes, in the form that `docs/PROBE.md` gives.
+
+use crate::question::{Call, Load, Question};
+
+/// The most bytes of an image or of a guest that the form takes.
+pub const LARGEST: usize = 1 << 20;
+
+/// Whether the form takes the question.
+pub fn fits(question: &Question) -> bool {
+    let image = match question {
+        Question::Elf(load) | Question::Bzimage(load) => &load.image,
+        Question::Note(walk) => &walk.image,
+        Question::Line(_) | Question::LineLoad(_) => return question.guest().len() <= LARGEST,
+    };
+    image.len() <= LARGEST && question.guest().len() <= LARGEST
+}
+
+/// The question with its length in front.
+pub fn framed(question: &Question) -> Vec<u8> {
+    let body = body(question);
+    let mut bytes = (body.len() as u32).to_le_bytes().to_vec();
+    bytes.extend(body);
+    bytes
+}
+
+fn body(question: &Question) -> Vec<u8> {
+    let mut out = Vec::new();
+    match question {
+        Question::Elf(load) => put_load(&mut out, 1, load),
+        Question::Note(walk) => {
+            out.push(2);
+            out.extend(walk.place.to_le_bytes());
+            out.extend(walk.size.to_le_bytes());
+            out.extend(&walk.image);
+        }
+        Question::Bzimage(load) => put_load(&mut out, 3, load),
+        Question::Line(calls) => {
+            out.push(4);
+            put_calls(&mut out, calls);
+        }
+        Question::LineLoad(load) => {
+            out.push(5);
+            out.extend(load.address.to_le_bytes());
+            put_length4(&mut out, &load.guest);
+            out.extend(&load.guest);
+            put_calls(&mut out, &load.calls);
+        }
+    }
+    out
+}
+
+fn put_load(out: &mut Vec<u8>, kind: u8, load: &Load) {
+    let options = load.options;
+    let flags = u8::from(options.offset.is_some()) + 2 * u8::from(options.highmem.is_some());
+    out.extend([kind, flags]);
+    out.extend(options.offset.unwrap_or(0).to_le_bytes());
+    out.extend(options.highmem.unwrap_or(0).to_le_bytes());
+    put_length4(out, &load.image);
+    put_length4(out, &load.guest);
+    out.extend(&load.image);
+    out.extend(&load.guest);
+}
+
+fn put_calls(out: &mut Vec<u8>, calls: &[Call]) {
+    for call in calls {
+        put_call(out, call);
+    }
+}
+
+fn put_call(out: &mut Vec<u8>, call: &Call) {
+    match call {
+        Call::New { capacity } => {
+            out.push(1);
+            out.extend(capacity.to_le_bytes());
+        }
+        Call::InsertStr(text) => {
+            out.push(2);
+            put_text(out, text);
+        }
+        Call::InsertInitArgs(text) => {
+            out.push(3);
+            put_text(out, text);
+        }
+        Call::Insert { key, value } => {
+            out.push(4);
+            put_length2(out, key.len());
+            put_length2(out, value.len());
+            out.extend(key);
+            out.extend(value);
+        }
+        Call::InsertMultiple { key, ends, values } => {
+            out.push(5);
+            put_length2(out, key.len());
+            put_length2(out, ends.len());
+            put_length2(out, values.len());
+            out.extend(key);
+            for end in ends {
+                out.extend(end.to_le_bytes());
+            }
+            out.extend(values);
+        }
+        Call::AddDevice {
+            size,
+            address,
+            irq,
+            id,
+        } => {
+            out.push(6);
+            out.extend(size.to_le_bytes());
+            out.extend(address.to_le_bytes());
+            out.extend(irq.to_le_bytes());
+            out.push(u8::from(id.is_some()));
+            out.extend(id.unwrap_or(0).to_le_bytes());
+        }
+        Call::TryFrom { capacity, text } => {
+            out.push(7);
+            out.extend(capacity.to_le_bytes());
+            put_text(out, text);
+        }
+        Call::AsCstring { room } => {
+            out.push(8);
+            out.extend(room.to_le_bytes());
+        }
+        Call::Keep => out.push(9),
+        Call::IsEqual => out.push(10),
+    }
+}
+
+fn put_text(out: &mut Vec<u8>, text: &[u8]) {
+    put_length2(out, text.len());
+    out.extend(text);
+}
+
+fn put_length2(out: &mut Vec<u8>, length: usize) {
+    let length = u16::try_from(length).expect("a generated text has at most 65,535 bytes");
+    out.extend(length.to_le_bytes());
+}
+
+fn put_length4(out: &mut Vec<u8>, bytes: &[u8]) {
+    out.extend((bytes.len() as u32).to_le_bytes());
+}

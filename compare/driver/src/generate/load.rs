@@ -1,0 +1,24 @@
+//! Lines put into guest memory.
+
+use crate::generate::{guest_length, line};
+use crate::question::LineLoad;
+use crate::rng::Rng;
+
+pub fn question(rng: &mut Rng) -> LineLoad {
+    let count = rng.length(0, 3);
+    let (calls, line) = line::calls_of(rng, count);
+    let guest = guest_length(rng);
+    let written = line.written().map_or(1, |text| text.len() as u64);
+    let address = match rng.below(8) {
+        0 => rng.near(&[guest as u64, 0, u64::MAX]),
+        1 => rng.next() >> rng.below(64),
+        2 | 3 => rng.below(guest as u64 + 1),
+        4 => rng.near(&[written.wrapping_neg()]),
+        _ => rng.near(&[(guest as u64).wrapping_sub(written)]),
+    };
+    LineLoad {
+        address,
+        guest: rng.bytes(guest),
+        calls,
+    }
+}

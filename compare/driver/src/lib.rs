@@ -1,0 +1,25 @@
+//! Asks the second program, the published crate and the proved code the same questions, and compares every answer and every
+//! guest byte.
+
+pub mod answer;
+pub mod backend;
+pub mod cli;
+pub mod compare;
+mod decode;
+pub mod domain;
+mod encode;
+pub mod examples;
+mod generate;
+mod images;
+mod over_planted;
+pub mod over_second;
+mod pipe;
+mod planted_run;
+pub mod question;
+mod report;
+mod rng;
+mod run;
+mod sample;
+mod show;
+mod shrink;
+mod stand_in;

@@ -1,0 +1,61 @@
+//! The planted-mistake run: each mistake of the list, switched on alone, must be noticed.
+
+use crate::backend::Maker;
+use crate::over_planted;
+use crate::over_second::Second;
+use crate::run::{run, Plan, EXHAUSTIVE_PARTS};
+
+/// Enough random questions for a rare path, after all the exhaustive ones.
+const RANDOM: [u64; 5] = [160_000, 80_000, 80_000, 80_000, 40_000];
+
+/// Prints for each mistake who noticed it, then the score; answers whether the unedited program noticed them all.
+pub fn planted(seed: u64, threads: usize, published: Option<&Maker>) -> bool {
+    let second: Maker = Box::new(|| Box::new(Second));
+    let judges: Vec<(&str, &Maker)> = [("second", &second)]
+        .into_iter()
+        .chain(published.map(|published| ("crate", published)))
+        .collect();
+    let mut plan = Plan {
+        seed,
+        random: RANDOM.map(|count| count / 8),
+        exhaustive: EXHAUSTIVE_PARTS,
+        threads,
+        stop_at_difference: true,
+        show_progress: false,
+    };
+    // a mistake may panic, which is noticed like any other answer and need not be told each time
+    std::panic::set_hook(Box::new(|_| {}));
+    // with no mistake switched on the copy is the program itself
+    planted::switch_on(usize::MAX);
+    let control = run(&plan, over_planted::answer, &[&second]);
+    println!("no mistake: {} differences", control.difference_count);
+    plan.random = RANDOM;
+
+    let mut scores = vec![0; judges.len()];
+    for (index, (file, what)) in planted::MISTAKES.iter().enumerate() {
+        planted::switch_on(index);
+        let mut words = Vec::new();
+        for ((name, judge), score) in judges.iter().zip(&mut scores) {
+            let outcome = run(&plan, over_planted::answer, &[judge]);
+            let noticed = outcome.difference_count > 0;
+            *score += usize::from(noticed);
+            let cases: u64 = outcome.cases.iter().sum();
+            words.push(if noticed {
+                format!("{name} within {cases} cases")
+            } else {
+                format!("{name} NOT in {cases} cases")
+            });
+        }
+        println!("{file}: {what}: noticed by {}", words.join(", by "));
+    }
+    planted::switch_on(usize::MAX);
+
+    let count = planted::MISTAKES.len();
+    let scored: Vec<String> = judges
+        .iter()
+        .zip(&scores)
+        .map(|((name, _), score)| format!("{score} of {count} with {name} as judge"))
+        .collect();
+    println!("planted mistakes noticed: {}", scored.join(", "));
+    control.difference_count == 0 && scores[0] == count
+}

@@ -1,0 +1,130 @@
+//! What is asked. `docs/PROBE.md` has the meaning of each kind; this is the same in Rust.
+
+/// An address that moves an image, and the lowest entry address; each may be left out.
+#[derive(Clone, Copy, Debug, Default, PartialEq, Eq)]
+pub struct Options {
+    pub offset: Option<u64>,
+    pub highmem: Option<u64>,
+}
+
+/// An image to load, and guest memory with its first content.
+#[derive(Clone, Debug, Default, PartialEq, Eq)]
+pub struct Load {
+    pub options: Options,
+    pub image: Vec<u8>,
+    pub guest: Vec<u8>,
+}
+
+/// A walk over the notes at a place of an image.
+#[derive(Clone, Debug, Default, PartialEq, Eq)]
+pub struct Walk {
+    pub place: u64,
+    pub size: u64,
+    pub image: Vec<u8>,
+}
+
+/// Calls that make a line, which is then put into guest memory.
+#[derive(Clone, Debug, Default, PartialEq, Eq)]
+pub struct LineLoad {
+    pub address: u64,
+    pub guest: Vec<u8>,
+    pub calls: Vec<Call>,
+}
+
+#[derive(Clone, Debug, PartialEq, Eq)]
+pub enum Question {
+    Elf(Load),
+    Note(Walk),
+    Bzimage(Load),
+    Line(Vec<Call>),
+    LineLoad(LineLoad),
+}
+
+/// One call on the line that is carried from call to call.
+#[derive(Clone, Debug, PartialEq, Eq)]
+pub enum Call {
+    New {
+        capacity: u32,
+    },
+    InsertStr(Vec<u8>),
+    InsertInitArgs(Vec<u8>),
+    Insert {
+        key: Vec<u8>,
+        value: Vec<u8>,
+    },
+    InsertMultiple {
+        key: Vec<u8>,
+        ends: Vec<u32>,
+        values: Vec<u8>,
+    },
+    AddDevice {
+        size: u64,
+        address: u64,
+        irq: u32,
+        id: Option<u32>,
+    },
+    TryFrom {
+        capacity: u32,
+        text: Vec<u8>,
+    },
+    AsCstring {
+        room: u32,
+    },
+    Keep,
+    IsEqual,
+}
+
+/// The areas that cases are counted by, one for each kind of question.
+#[derive(Clone, Copy, Debug, PartialEq, Eq)]
+pub enum Area {
+    Elf,
+    Note,
+    Bzimage,
+    Line,
+    LineLoad,
+}
+
+impl Area {
+    pub const ALL: [Area; 5] = [
+        Area::Elf,
+        Area::Note,
+        Area::Bzimage,
+        Area::Line,
+        Area::LineLoad,
+    ];
+
+    pub fn name(self) -> &'static str {
+        match self {
+            Area::Elf => "elf",
+            Area::Note => "note",
+            Area::Bzimage => "bzimage",
+            Area::Line => "line",
+            Area::LineLoad => "load",
+        }
+    }
+
+    pub fn named(name: &str) -> Option<Area> {
+        Area::ALL.into_iter().find(|area| area.name() == name)
+    }
+}
+
+impl Question {
+    pub fn area(&self) -> Area {
+        match self {
+            Question::Elf(_) => Area::Elf,
+            Question::Note(_) => Area::Note,
+            Question::Bzimage(_) => Area::Bzimage,
+            Question::Line(_) => Area::Line,
+            Question::LineLoad(_) => Area::LineLoad,
+        }
+    }
+
+    /// The guest's first content; a question without a guest has an empty one.
+    pub fn guest(&self) -> &[u8] {
+        match self {
+            Question::Elf(load) | Question::Bzimage(load) => &load.guest,
+            Question::LineLoad(load) => &load.guest,
+            Question::Note(_) | Question::Line(_) => &[],
+        }
+    }
+}

@@ -1,0 +1,279 @@
+//! One comparison: many questions, asked of everyone, in parts that threads share out.
+
+use crate::answer::Answer;
+use crate::backend::{Backend, Maker, Reply};
+use crate::generate;
+use crate::question::{Area, Question};
+use crate::rng::Rng;
+use std::collections::BTreeMap;
+use std::sync::atomic::{AtomicBool, AtomicUsize, Ordering};
+use std::sync::Mutex;
+use std::time::{Duration, Instant};
+
+/// How many questions are asked at a time, and how many make a part. A part has random numbers of its own, so that the result
+/// does not depend on how many threads there are.
+const BATCH: usize = 64;
+const PART: u64 = 8192;
+/// The exhaustive questions of an area are dealt out to this many parts.
+pub const EXHAUSTIVE_PARTS: usize = 16;
+
+pub struct Plan {
+    pub seed: u64,
+    /// How many random questions for each area, in the order of `Area::ALL`.
+    pub random: [u64; 5],
+    /// How many parts of the exhaustive questions are asked, too.
+    pub exhaustive: usize,
+    pub threads: usize,
+    /// Ends at the first difference.
+    pub stop_at_difference: bool,
+    pub show_progress: bool,
+}
+
+/// A question that two answered differently.
+pub struct Difference {
+    pub question: Question,
+    /// Which of the backends differed.
+    pub backend: usize,
+}
+
+#[derive(Default)]
+pub struct Outcome {
+    pub cases: [u64; 5],
+    /// How often each refusal was the wanted answer.
+    pub numbers: BTreeMap<u8, u64>,
+    /// How many questions of each area each backend was compared on; the others lay outside its domain.
+    pub compared: Vec<[u64; 5]>,
+    pub difference_count: u64,
+    /// The first few of each part, in the order of the parts.
+    pub differences: Vec<Difference>,
+}
+
+#[derive(Clone, Copy)]
+enum Source {
+    Exhaustive { part: usize },
+    Random { part: u64, count: u64 },
+}
+
+type Part = (Area, Source);
+
+/// Asks the questions of the plan; `wanted` gives the answer that every backend is held to.
+pub fn run(plan: &Plan, wanted: fn(&Question) -> Answer, backends: &[&Maker]) -> Outcome {
+    let parts = parts(plan);
+    let next = AtomicUsize::new(0);
+    let stop = AtomicBool::new(false);
+    let progress = Progress::new(plan.show_progress, parts.len());
+    let done = Mutex::new(Vec::new());
+    std::thread::scope(|scope| {
+        for _ in 0..plan.threads {
+            scope.spawn(|| {
+                let mut asked: Vec<_> = backends.iter().map(|make| make()).collect();
+                while !stop.load(Ordering::Relaxed) {
+                    let index = next.fetch_add(1, Ordering::Relaxed);
+                    let Some(part) = parts.get(index) else { break };
+                    let outcome = run_part(plan, *part, wanted, &mut asked);
+                    if plan.stop_at_difference && outcome.difference_count > 0 {
+                        stop.store(true, Ordering::Relaxed);
+                    }
+                    progress.add(&outcome);
+                    done.lock()
+                        .expect("no thread panics")
+                        .push((index, outcome));
+                }
+            });
+        }
+    });
+    let mut done = done.into_inner().expect("no thread panics");
+    done.sort_by_key(|(index, _)| *index);
+    let mut total = Outcome::default();
+    for (_, outcome) in done {
+        total.add(outcome);
+    }
+    total
+}
+
+/// All parts, the areas in turn, so that a mistake in any area is met early.
+fn parts(plan: &Plan) -> Vec<Part> {
+    let mut parts = Vec::new();
+    for part in 0..plan.exhaustive.min(EXHAUSTIVE_PARTS) {
+        parts.extend(Area::ALL.map(|area| (area, Source::Exhaustive { part })));
+    }
+    let longest = plan.random.iter().max().expect("there are areas");
+    for part in 0..longest.div_ceil(PART) {
+        for (area, random) in Area::ALL.into_iter().zip(plan.random) {
+            let count = random.saturating_sub(part * PART).min(PART);
+            if count > 0 {
+                parts.push((area, Source::Random { part, count }));
+            }
+        }
+    }
+    parts
+}
+
+fn run_part(
+    plan: &Plan,
+    (area, source): Part,
+    wanted: fn(&Question) -> Answer,
+    backends: &mut [Box<dyn Backend>],
+) -> Outcome {
+    let mut outcome = Outcome {
+        compared: vec![[0; 5]; backends.len()],
+        ..Outcome::default()
+    };
+    let mut batches = batches(plan.seed, area, source);
+    loop {
+        let questions: Vec<Question> = batches.by_ref().take(BATCH).collect();
+        if questions.is_empty() {
+            return outcome;
+        }
+        let answers: Vec<Answer> = questions.iter().map(wanted).collect();
+        outcome.cases[area as usize] += questions.len() as u64;
+        for number in answers.iter().flat_map(Answer::numbers) {
+            *outcome.numbers.entry(number).or_default() += 1;
+        }
+        for (index, backend) in backends.iter_mut().enumerate() {
+            outcome.compare(&questions, &answers, index, backend.as_mut());
+        }
+        if plan.stop_at_difference && outcome.difference_count > 0 {
+            return outcome;
+        }
+    }
+}
+
+fn batches(seed: u64, area: Area, source: Source) -> Box<dyn Iterator<Item = Question>> {
+    match source {
+        Source::Exhaustive { part } => {
+            let all = generate::exhaustive(area);
+            Box::new(all.skip(part).step_by(EXHAUSTIVE_PARTS))
+        }
+        Source::Random { part, count } => {
+            let mut rng = Rng::for_part(seed, area as u64, part);
+            Box::new((0..count).map(move |_| generate::random(area, &mut rng)))
+        }
+    }
+}
+
+impl Outcome {
+    /// How many differing questions of a part are kept to be shown.
+    const KEPT: usize = 4;
+
+    fn compare(
+        &mut self,
+        questions: &[Question],
+        answers: &[Answer],
+        index: usize,
+        backend: &mut dyn Backend,
+    ) {
+        let replies = backend.ask_all(questions);
+        for ((question, answer), reply) in questions.iter().zip(answers).zip(&replies) {
+            if !matches!(reply, Reply::Outside) {
+                self.compared[index][question.area() as usize] += 1;
+            }
+            if !backend.agrees(question, answer, reply) {
+                self.difference_count += 1;
+                if self.differences.len() < Outcome::KEPT {
+                    self.differences.push(Difference {
+                        question: question.clone(),
+                        backend: index,
+                    });
+                }
+            }
+        }
+    }
+
+    fn add(&mut self, other: Outcome) {
+        add_counts(&mut self.cases, &other.cases);
+        for (number, count) in other.numbers {
+            *self.numbers.entry(number).or_default() += count;
+        }
+        self.compared.resize(other.compared.len(), [0; 5]);
+        for (sum, compared) in self.compared.iter_mut().zip(&other.compared) {
+            add_counts(sum, compared);
+        }
+        self.difference_count += other.difference_count;
+        self.differences.extend(other.differences);
+    }
+}
+
+fn add_counts(sums: &mut [u64; 5], counts: &[u64; 5]) {
+    for (sum, count) in sums.iter_mut().zip(counts) {
+        *sum += count;
+    }
+}
+
+/// Says on standard error how far the run is, every few seconds.
+struct Progress {
+    show: bool,
+    parts: usize,
+    state: Mutex<State>,
+}
+
+struct State {
+    began: Instant,
+    said: Instant,
+    parts: usize,
+    cases: u64,
+    differences: u64,
+}
+
+impl Progress {
+    fn new(show: bool, parts: usize) -> Progress {
+        let now = Instant::now();
+        let state = Mutex::new(State {
+            began: now,
+            said: now,
+            parts: 0,
+            cases: 0,
+            differences: 0,
+        });
+        Progress { show, parts, state }
+    }
+
+    fn add(&self, outcome: &Outcome) {
+        let mut state = self.state.lock().expect("no thread panics");
+        state.parts += 1;
+        state.cases += outcome.cases.iter().sum::<u64>();
+        state.differences += outcome.difference_count;
+        let whole = state.parts == self.parts;
+        if self.show && (whole || state.said.elapsed() > Duration::from_secs(3)) {
+            state.said = Instant::now();
+            let seconds = state.began.elapsed().as_secs_f64();
+            eprintln!(
+                "part {} of {}: {} cases, {} differences, {:.0} cases a second",
+                state.parts,
+                self.parts,
+                state.cases,
+                state.differences,
+                state.cases as f64 / seconds
+            );
+        }
+    }
+}
+
+#[cfg(test)]
+mod tests {
+    use super::*;
+    use crate::over_second::{self, Second};
+
+    fn outcome(seed: u64, threads: usize) -> Outcome {
+        let plan = Plan {
+            seed,
+            random: [300, 300, 20, 9000, 300],
+            exhaustive: 0,
+            threads,
+            stop_at_difference: false,
+            show_progress: false,
+        };
+        let maker: Maker = Box::new(|| Box::new(Second));
+        run(&plan, over_second::answer, &[&maker])
+    }
+
+    #[test]
+    fn one_seed_gives_one_result_on_any_number_of_threads() {
+        let first = outcome(5, 1);
+        assert_eq!(first.cases, [300, 300, 20, 9000, 300]);
+        assert_eq!(first.numbers, outcome(5, 3).numbers);
+        assert_ne!(first.numbers, outcome(6, 1).numbers);
+        assert_eq!(first.difference_count, 0);
+        assert_eq!(first.compared, [first.cases]);
+    }
+}

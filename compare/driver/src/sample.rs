@@ -1,0 +1,155 @@
+//! A small sample of questions with their answers, which can be replayed where there is no Rust.
+
+use crate::answer::Answer;
+use crate::backend::{Maker, Reply};
+use crate::compare;
+use crate::encode::framed;
+use crate::examples;
+use crate::generate;
+use crate::over_second;
+use crate::question::{Area, Load, Question};
+use crate::rng::Rng;
+use std::fs;
+use std::io::Result;
+use std::path::Path;
+
+/// The seed of the random questions; another seed makes another sample.
+const SEED: u64 = 1;
+
+/// How many bytes the random questions of an area and their answers may take.
+const BUDGET: [(Area, usize); 5] = [
+    (Area::Elf, 150_000),
+    (Area::Note, 85_000),
+    (Area::Bzimage, 90_000),
+    (Area::Line, 140_000),
+    (Area::LineLoad, 60_000),
+];
+
+/// A question longer than this would take the room of many others.
+const LONGEST: usize = 1_300;
+
+/// Who gave an answer of the sample.
+#[derive(Default)]
+struct Sources {
+    /// The published crate, in every word.
+    published: usize,
+    /// The published crate, with what it does not tell taken from the second program.
+    completed: usize,
+    /// The second program, for the question lies outside the crate's domain.
+    second: usize,
+}
+
+/// Writes `stdin` and `stdout` into the folder.
+pub fn write(folder: &Path, published: Option<&Maker>) -> Result<()> {
+    let mut published = published.map(|make| make());
+    let mut sources = Sources::default();
+    let (mut questions, mut lines) = (Vec::new(), String::new());
+    for question in questions_of_sample() {
+        let reply = match &mut published {
+            Some(published) => published.ask(&question),
+            None => Reply::Outside,
+        };
+        lines += &answer(&question, &reply, &mut sources).line(question.guest());
+        lines += "\n";
+        questions.extend(framed(&question));
+    }
+    fs::write(folder.join("stdin"), &questions)?;
+    fs::write(folder.join("stdout"), &lines)?;
+    println!(
+        "sample: {} questions, {} and {} bytes; answered by the crate {}, by the crate with parts from the second program {}, by \
+         the second program alone {}",
+        lines.lines().count(),
+        questions.len(),
+        lines.len(),
+        sources.published,
+        sources.completed,
+        sources.second
+    );
+    Ok(())
+}
+
+/// The crate's answer as far as its domain goes.
+fn answer(question: &Question, reply: &Reply, sources: &mut Sources) -> Answer {
+    let second = over_second::answer(question);
+    let Reply::Answer(answer) = reply else {
+        sources.second += 1;
+        return second;
+    };
+    let whole = compare::completed(question, answer, &second);
+    if whole == *answer {
+        sources.published += 1;
+    } else {
+        sources.completed += 1;
+    }
+    whole
+}
+
+fn questions_of_sample() -> Vec<Question> {
+    let mut questions = examples::all();
+    questions.extend(cut_short());
+    for (area, budget) in BUDGET {
+        let mut rng = Rng::for_part(SEED, area as u64, 0);
+        let mut left = budget;
+        loop {
+            let question = generate::random(area, &mut rng);
+            let bytes = framed(&question).len();
+            if bytes > LONGEST {
+                continue;
+            }
+            let answer = over_second::answer(&question).line(question.guest());
+            let Some(rest) = left.checked_sub(bytes + answer.len()) else {
+                break;
+            };
+            left = rest;
+            questions.push(question);
+        }
+    }
+    questions
+}
+
+/// Good images cut at every place where it matters.
+fn cut_short() -> impl Iterator<Item = Question> {
+    let cut = |load: Load, lengths: std::ops::Range<usize>, step| {
+        lengths.step_by(step).map(move |length| {
+            let mut load = load.clone();
+            load.image.truncate(length);
+            load
+        })
+    };
+    let small = cut(examples::small_elf(), 0..123, 3);
+    let notes = cut(examples::elf_with_notes(), 230..281, 2);
+    let bzimage = cut(examples::small_bzimage(), 0x1f0..0x1f0 + 125, 9);
+    let bzimage = bzimage.chain(cut(examples::small_bzimage(), 1022..1028, 1));
+    let elf = small.chain(notes).map(Question::Elf);
+    elf.chain(bzimage.map(Question::Bzimage))
+}
+
+#[cfg(test)]
+mod tests {
+    use super::*;
+    use std::collections::BTreeSet;
+
+    #[test]
+    fn the_sample_is_small_and_reaches_every_number() {
+        let questions = questions_of_sample();
+        let answers: Vec<Answer> = questions.iter().map(over_second::answer).collect();
+        let numbers: BTreeSet<u8> = answers.iter().flat_map(Answer::numbers).collect();
+        let wanted: BTreeSet<u8> = (1..=13)
+            .chain(21..=24)
+            .chain(31..=32)
+            .chain(41..=51)
+            .chain(61..=62)
+            .collect();
+        assert_eq!(numbers, wanted);
+        let bytes: usize = questions
+            .iter()
+            .map(|question| framed(question).len())
+            .sum();
+        let lines = questions.iter().zip(&answers);
+        let lines: usize = lines
+            .map(|(question, answer)| answer.line(question.guest()).len() + 1)
+            .sum();
+        assert!(bytes + lines < 600 << 10, "{bytes} and {lines}");
+        assert!(questions.len() > 2000, "{} questions", questions.len());
+    }
+}

@@ -1,0 +1,129 @@
+//! Questions as a person reads them.
+
+use crate::question::{Call, Load, Question};
+use std::fmt::Write;
+
+pub fn show(question: &Question) -> String {
+    match question {
+        Question::Elf(load) => format!("an ELF load{}", show_load(load)),
+        Question::Bzimage(load) => format!("a bzImage load{}", show_load(load)),
+        Question::Note(walk) => format!(
+            "a note walk from {} over {} bytes\n{}",
+            walk.place,
+            walk.size,
+            show_bytes("image", &walk.image)
+        ),
+        Question::Line(calls) => format!("line calls\n{}", show_calls(calls)),
+        Question::LineLoad(load) => format!(
+            "a line put to address {}\n{}{}",
+            load.address,
+            show_calls(&load.calls),
+            show_bytes("guest", &load.guest)
+        ),
+    }
+}
+
+fn show_load(load: &Load) -> String {
+    let mut text = String::new();
+    for (name, option) in [
+        ("offset", load.options.offset),
+        ("highmem", load.options.highmem),
+    ] {
+        if let Some(number) = option {
+            text += &format!(", {name} {number} ({number:#x})");
+        }
+    }
+    text + "\n" + &show_bytes("image", &load.image) + &show_bytes("guest", &load.guest)
+}
+
+/// The length, and each run of bytes that are not 0 with its place.
+fn show_bytes(name: &str, bytes: &[u8]) -> String {
+    let mut text = format!("  {name}: {} bytes", bytes.len());
+    let mut zeros = 4;
+    for (place, byte) in bytes.iter().enumerate() {
+        if *byte == 0 {
+            zeros += 1;
+            continue;
+        }
+        // a new run where zeros would take more room than its place
+        if zeros >= 4 {
+            write!(text, "\n    {place}:").expect("a string takes all");
+            zeros = 0;
+        }
+        for _ in 0..std::mem::take(&mut zeros) {
+            text += " 00";
+        }
+        write!(text, " {byte:02x}").expect("a string takes all");
+    }
+    text + "\n"
+}
+
+fn show_calls(calls: &[Call]) -> String {
+    calls
+        .iter()
+        .map(|call| format!("  {}\n", show_call(call)))
+        .collect()
+}
+
+fn show_call(call: &Call) -> String {
+    match call {
+        Call::New { capacity } => format!("new({capacity})"),
+        Call::InsertStr(slug) => format!("insert_str({})", text(slug)),
+        Call::InsertInitArgs(slug) => format!("insert_init_args({})", text(slug)),
+        Call::Insert { key, value } => format!("insert({}, {})", text(key), text(value)),
+        Call::InsertMultiple { key, ends, values } => {
+            format!(
+                "insert_multiple({}, {ends:?} of {})",
+                text(key),
+                text(values)
+            )
+        }
+        Call::AddDevice {
+            size,
+            address,
+            irq,
+            id,
+        } => format!("add_virtio_mmio_device({size}, {address}, {irq}, {id:?})"),
+        Call::TryFrom {
+            capacity,
+            text: whole,
+        } => format!("try_from({}, {capacity})", text(whole)),
+        Call::AsCstring { room } => format!("as_cstring() into {room} bytes"),
+        Call::Keep => "keep the line aside".into(),
+        Call::IsEqual => "is it equal to the one kept aside?".into(),
+    }
+}
+
+/// The text in quotes. Escapes stand for bytes that cannot be printed.
+fn text(bytes: &[u8]) -> String {
+    format!("\"{}\"", bytes.escape_ascii())
+}
+
+#[cfg(test)]
+mod tests {
+    use super::*;
+    use crate::question::Walk;
+
+    #[test]
+    fn calls_read_like_calls() {
+        let calls = vec![
+            Call::New { capacity: 3 },
+            Call::InsertStr(b"a\"\0".to_vec()),
+        ];
+        let wanted = "line calls\n  new(3)\n  insert_str(\"a\\\"\\x00\")\n";
+        assert_eq!(show(&Question::Line(calls)), wanted);
+    }
+
+    #[test]
+    fn bytes_are_shown_in_runs() {
+        let image = [&[0; 6][..], &[1, 0, 2], &[0; 5], &[3]].concat();
+        let walk = Walk {
+            place: 0,
+            size: 1,
+            image,
+        };
+        let wanted =
+            "a note walk from 0 over 1 bytes\n  image: 15 bytes\n    6: 01 00 02\n    14: 03\n";
+        assert_eq!(show(&Question::Note(walk)), wanted);
+    }
+}

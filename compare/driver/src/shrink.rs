@@ -1,0 +1,290 @@
+//! Makes a differing question as small as it can be while it still differs.
+
+use crate::question::{Call, Load, Question};
+
+/// How many questions are asked at most in search of a smaller one.
+const PATIENCE: usize = 20_000;
+
+/// The smallest question found that still differs.
+pub fn shrink(question: Question, mut differs: impl FnMut(&Question) -> bool) -> Question {
+    let mut smallest = question;
+    let mut asked = 0;
+    'again: loop {
+        for smaller in smaller(&smallest) {
+            asked += 1;
+            if asked > PATIENCE {
+                return smallest;
+            }
+            if differs(&smaller) {
+                smallest = smaller;
+                continue 'again;
+            }
+        }
+        return smallest;
+    }
+}
+
+/// Questions that are a step smaller, the largest steps first.
+fn smaller(question: &Question) -> Vec<Question> {
+    match question {
+        Question::Elf(load) => smaller_loads(load).map(Question::Elf).collect(),
+        Question::Bzimage(load) => smaller_loads(load).map(Question::Bzimage).collect(),
+        Question::Note(walk) => {
+            let with = |place, size, image: &[u8]| {
+                let mut smaller = walk.clone();
+                (smaller.place, smaller.size) = (place, size);
+                smaller.image = image.to_vec();
+                Question::Note(smaller)
+            };
+            let images = smaller_bytes(&walk.image);
+            let images = images.map(|image| with(walk.place, walk.size, &image));
+            let places = smaller_numbers(walk.place);
+            let places = places.map(|place| with(place, walk.size, &walk.image));
+            let sizes = smaller_numbers(walk.size);
+            let sizes = sizes.map(|size| with(walk.place, size, &walk.image));
+            images.chain(places).chain(sizes).collect()
+        }
+        Question::Line(calls) => smaller_calls(calls).map(Question::Line).collect(),
+        Question::LineLoad(load) => {
+            let mut all = Vec::new();
+            for calls in smaller_calls(&load.calls) {
+                let mut smaller = load.clone();
+                smaller.calls = calls;
+                all.push(smaller);
+            }
+            for guest in smaller_bytes(&load.guest) {
+                let mut smaller = load.clone();
+                smaller.guest = guest;
+                all.push(smaller);
+            }
+            for address in smaller_numbers(load.address) {
+                let mut smaller = load.clone();
+                smaller.address = address;
+                all.push(smaller);
+            }
+            all.into_iter().map(Question::LineLoad).collect()
+        }
+    }
+}
+
+fn smaller_loads(load: &Load) -> impl Iterator<Item = Load> + '_ {
+    let changed = |change: &dyn Fn(&mut Load)| {
+        let mut smaller = load.clone();
+        change(&mut smaller);
+        smaller
+    };
+    let mut all = Vec::new();
+    if let Some(offset) = load.options.offset {
+        all.push(changed(&|smaller| smaller.options.offset = None));
+        for number in smaller_numbers(offset) {
+            all.push(changed(&|smaller| smaller.options.offset = Some(number)));
+        }
+    }
+    if let Some(highmem) = load.options.highmem {
+        all.push(changed(&|smaller| smaller.options.highmem = None));
+        for number in smaller_numbers(highmem) {
+            all.push(changed(&|smaller| smaller.options.highmem = Some(number)));
+        }
+    }
+    let guests = smaller_bytes(&load.guest).map(|guest| Load {
+        guest,
+        ..load.clone()
+    });
+    let images = smaller_bytes(&load.image).map(|image| Load {
+        image,
+        ..load.clone()
+    });
+    all.into_iter().chain(guests).chain(images)
+}
+
+fn smaller_numbers(number: u64) -> impl Iterator<Item = u64> {
+    let candidates = [0, number / 2, number.wrapping_sub(1)];
+    candidates
+        .into_iter()
+        .filter(move |smaller| *smaller < number)
+}
+
+/// Shorter bytes, then the same length with runs of bytes, and single ones, made 0, then with single ones made 1.
+fn smaller_bytes(bytes: &[u8]) -> impl Iterator<Item = Vec<u8>> + '_ {
+    let length = bytes.len();
+    let halves = std::iter::successors(Some(length), |size| Some(size / 2));
+    let sizes: Vec<usize> = halves.take_while(|size| *size > 0).collect();
+    let cut = sizes.clone().into_iter();
+    let cut = cut.map(move |size| bytes[..length - size].to_vec());
+    let zeroed = sizes.into_iter().flat_map(move |size| {
+        (0..length).step_by(size).filter_map(move |start| {
+            let end = (start + size).min(length);
+            let run = &bytes[start..end];
+            run.iter().any(|byte| *byte != 0).then(|| {
+                let mut smaller = bytes.to_vec();
+                smaller[start..end].fill(0);
+                smaller
+            })
+        })
+    });
+    let ones = (0..length).filter(move |place| bytes[*place] > 1);
+    let ones = ones.map(move |place| {
+        let mut smaller = bytes.to_vec();
+        smaller[place] = 1;
+        smaller
+    });
+    cut.chain(zeroed).chain(ones)
+}
+
+fn smaller_calls(calls: &[Call]) -> impl Iterator<Item = Vec<Call>> + '_ {
+    let without = (0..calls.len()).map(|index| {
+        let mut fewer = calls.to_vec();
+        fewer.remove(index);
+        fewer
+    });
+    let simpler = (0..calls.len()).flat_map(move |index| {
+        smaller_call(&calls[index]).into_iter().map(move |call| {
+            let mut simpler = calls.to_vec();
+            simpler[index] = call;
+            simpler
+        })
+    });
+    without.chain(simpler)
+}
+
+fn smaller_call(call: &Call) -> Vec<Call> {
+    let mut all = Vec::new();
+    match call {
+        Call::New { capacity } => {
+            all.extend(smaller_u32(*capacity).map(|capacity| Call::New { capacity }));
+        }
+        Call::InsertStr(text) => all.extend(smaller_texts(text).map(Call::InsertStr)),
+        Call::InsertInitArgs(text) => all.extend(smaller_texts(text).map(Call::InsertInitArgs)),
+        Call::Insert { key, value } => {
+            for key in smaller_texts(key) {
+                let value = value.clone();
+                all.push(Call::Insert { key, value });
+            }
+            for value in smaller_texts(value) {
+                let key = key.clone();
+                all.push(Call::Insert { key, value });
+            }
+        }
+        Call::InsertMultiple { key, ends, values } => {
+            let with = |key: &[u8], ends: &[u32], values: &[u8]| Call::InsertMultiple {
+                key: key.to_vec(),
+                ends: ends.to_vec(),
+                values: values.to_vec(),
+            };
+            all.extend(smaller_texts(key).map(|key| with(&key, ends, values)));
+            for (index, end) in ends.iter().enumerate() {
+                let mut fewer = ends.clone();
+                fewer.remove(index);
+                all.push(with(key, &fewer, values));
+                // one value a byte shorter
+                if (*end as usize) <= values.len() && *end > 0 {
+                    let mut shorter = values.clone();
+                    shorter.remove(*end as usize - 1);
+                    let ends = ends.iter().map(|other| other - u32::from(other >= end));
+                    all.push(with(key, &ends.collect::<Vec<u32>>(), &shorter));
+                }
+            }
+            all.extend(smaller_texts(values).map(|values| with(key, ends, &values)));
+        }
+        Call::AddDevice {
+            size,
+            address,
+            irq,
+            id,
+        } => {
+            let with = |size, address, irq, id| Call::AddDevice {
+                size,
+                address,
+                irq,
+                id,
+            };
+            if id.is_some() {
+                all.push(with(*size, *address, *irq, None));
+            }
+            all.extend(smaller_numbers(*size).map(|size| with(size, *address, *irq, *id)));
+            all.extend(smaller_numbers(*address).map(|address| with(*size, address, *irq, *id)));
+            all.extend(smaller_u32(*irq).map(|irq| with(*size, *address, irq, *id)));
+        }
+        Call::TryFrom { capacity, text } => {
+            let capacity = *capacity;
+            all.extend(smaller_texts(text).map(|text| Call::TryFrom { capacity, text }));
+            all.extend(smaller_u32(capacity).map(|capacity| {
+                let text = text.clone();
+                Call::TryFrom { capacity, text }
+            }));
+        }
+        Call::AsCstring { room } => {
+            all.extend(smaller_u32(*room).map(|room| Call::AsCstring { room }));
+        }
+        Call::Keep | Call::IsEqual => {}
+    }
+    all
+}
+
+fn smaller_u32(number: u32) -> impl Iterator<Item = u32> {
+    smaller_numbers(number.into()).map(|number| number as u32)
+}
+
+/// A text without each of its bytes, and with each byte made plain.
+fn smaller_texts(text: &[u8]) -> impl Iterator<Item = Vec<u8>> + '_ {
+    let without = (0..text.len()).map(|place| {
+        let mut shorter = text.to_vec();
+        shorter.remove(place);
+        shorter
+    });
+    let plainer = (0..text.len())
+        .filter(|place| text[*place] != b'a')
+        .map(|place| {
+            let mut plainer = text.to_vec();
+            plainer[place] = b'a';
+            plainer
+        });
+    without.chain(plainer)
+}
+
+#[cfg(test)]
+mod tests {
+    use super::*;
+    use crate::question::Walk;
+
+    #[test]
+    fn calls_and_texts_that_do_not_matter_go() {
+        let calls = vec![
+            Call::New { capacity: 90 },
+            Call::InsertStr(b"some\x7ftext".to_vec()),
+            Call::Keep,
+        ];
+        let smallest = shrink(Question::Line(calls), |question| {
+            let Question::Line(calls) = question else {
+                unreachable!("the kind stays")
+            };
+            calls
+                .iter()
+                .any(|call| matches!(call, Call::InsertStr(text) if text.contains(&0x7f)))
+        });
+        let wanted = vec![Call::InsertStr(vec![0x7f])];
+        assert_eq!(smallest, Question::Line(wanted));
+    }
+
+    #[test]
+    fn an_image_is_cut_and_zeroed() {
+        let walk = Walk {
+            place: 77,
+            size: u64::MAX,
+            image: (1..200).collect(),
+        };
+        let smallest = shrink(Question::Note(walk), |question| {
+            let Question::Note(walk) = question else {
+                unreachable!("the kind stays")
+            };
+            walk.image.get(9) == Some(&10) && walk.size >= 5
+        });
+        let image = [&[0; 9][..], &[10]].concat();
+        let wanted = Walk {
+            place: 0,
+            size: 5,
+            image,
+        };
+        assert_eq!(smallest, Question::Note(wanted));
+    }
+}

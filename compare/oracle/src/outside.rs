@@ -1,0 +1,305 @@
+//! What the published crate does outside the domain in which the rules promise to equal it: one line for each smallest input.
+
+use crate::guest::content;
+use crate::numbers;
+use driver::answer::UNNUMBERED;
+use driver::examples;
+use driver::question::Load;
+use linux_loader::cmdline::Cmdline;
+use linux_loader::loader::{load_cmdline, BzImage, Elf, KernelLoader, KernelLoaderResult};
+use std::fs::File;
+use std::io::{Cursor, Read, Seek};
+use std::panic::{catch_unwind, AssertUnwindSafe};
+use vm_memory::{Address, Bytes, GuestAddress, GuestMemoryMmap, ReadVolatile};
+
+pub fn show_all() {
+    // a panic is one of the outcomes shown
+    std::panic::set_hook(Box::new(|_| {}));
+    failed_copies();
+    empty_kernels();
+    empty_guests();
+    several_regions();
+    files();
+    high_bytes();
+    large_capacities();
+}
+
+fn say(input: &str, rules: &str, published: String) {
+    println!("{input}\n  rules: {rules}\n  crate: {published}");
+}
+
+fn with_image(mut load: Load, change: impl Fn(&mut Vec<u8>)) -> Load {
+    change(&mut load.image);
+    load
+}
+
+fn with_guest(mut load: Load, length: usize) -> Load {
+    load.guest = examples::guest(length);
+    load
+}
+
+fn failed_copies() {
+    let elf = examples::small_elf;
+    let rules = "refused 10, nothing written";
+    say(
+        "ELF, one segment of 3 bytes for address 16, 18 guest bytes",
+        rules,
+        loaded::<Elf>(&with_guest(elf(), 18)),
+    );
+    say(
+        "ELF, the same, 16 guest bytes",
+        rules,
+        loaded::<Elf>(&with_guest(elf(), 16)),
+    );
+    say(
+        "ELF, the same, 32 guest bytes, image one byte short",
+        rules,
+        loaded::<Elf>(&with_image(elf(), |image| image.truncate(122))),
+    );
+    say(
+        "bzImage, a kernel of 3 bytes for address 4, 6 guest bytes",
+        "refused 24, nothing written",
+        loaded::<BzImage>(&with_guest(examples::small_bzimage(), 6)),
+    );
+}
+
+fn empty_kernels() {
+    let empty = || with_image(examples::small_bzimage(), |image| image.truncate(1024));
+    for (guest, place) in [(5, "in the guest"), (4, "at its end"), (3, "past its end")] {
+        say(
+            &format!("bzImage, a kernel of 0 bytes for address 4, {guest} guest bytes ({place})"),
+            "load 4, end 4, nothing written",
+            loaded::<BzImage>(&with_guest(empty(), guest)),
+        );
+    }
+    let load = with_guest(empty(), 3);
+    let last = Some(GuestAddress(u64::MAX));
+    let answer = BzImage::load(&memory_of(&load), last, &mut Cursor::new(&load.image), None);
+    say(
+        "bzImage, a kernel of 0 bytes, offset 2^64 - 1, 3 guest bytes",
+        "load and end 2^64 - 1, nothing written",
+        outcome(Some(answer.map_err(numbers::of_loader))),
+    );
+}
+
+fn empty_guests() {
+    let region = GuestMemoryMmap::<()>::from_ranges(&[(GuestAddress(0), 0)]);
+    say(
+        "guest memory of one region of 0 bytes",
+        "guest memory may be empty",
+        match region {
+            Ok(_) => "made".into(),
+            Err(error) => format!("the memory library makes none: {error}"),
+        },
+    );
+    let none = GuestMemoryMmap::new();
+    say(
+        "ELF, the small image, guest memory of no regions",
+        "refused 10",
+        outcome(run::<Elf>(
+            &none,
+            &mut Cursor::new(&examples::small_elf().image),
+        )),
+    );
+    let no_headers = with_image(examples::small_elf(), |image| image[56] = 0);
+    say(
+        "ELF without program headers, guest memory of no regions",
+        "load 16, end 0",
+        outcome(run::<Elf>(&none, &mut Cursor::new(&no_headers.image))),
+    );
+    say(
+        "bzImage, a kernel of 3 bytes, guest memory of no regions",
+        "refused 24",
+        outcome(run::<BzImage>(
+            &none,
+            &mut Cursor::new(&examples::small_bzimage().image),
+        )),
+    );
+    let line = Cmdline::new(1).expect("1 is a capacity");
+    let put = || load_cmdline(&none, GuestAddress(0), &line).map_err(numbers::of_loader);
+    say(
+        "an empty line put to address 0, guest memory of no regions",
+        "refused 32",
+        match catch_unwind(AssertUnwindSafe(put)) {
+            Ok(Ok(())) => "accepted".into(),
+            Ok(Err(number)) => refused(number),
+            Err(_) => "panics".into(),
+        },
+    );
+}
+
+fn several_regions() {
+    let neighbours = [(GuestAddress(0), 17), (GuestAddress(17), 15)];
+    let hole = [(GuestAddress(0), 17), (GuestAddress(18), 14)];
+    let image = examples::small_elf().image;
+    for (regions, what) in [
+        (neighbours, "0 to 16 and 17 to 31"),
+        (hole, "0 to 16 and 18 to 31"),
+    ] {
+        let memory = GuestMemoryMmap::from_ranges(&regions).expect("memory can be mapped");
+        let answer = outcome(run::<Elf>(&memory, &mut Cursor::new(&image)));
+        let bytes: Vec<String> = (16..19)
+            .map(
+                |address| match memory.read_obj::<u8>(GuestAddress(address)) {
+                    Ok(byte) => format!("{byte:02x}"),
+                    Err(_) => "none".into(),
+                },
+            )
+            .collect();
+        say(
+            &format!("ELF, one segment of 3 bytes for address 16, regions {what}, first all 0"),
+            "guest memory is one run of bytes from 0",
+            format!("{answer}; addresses 16 to 18 hold {}", bytes.join(" ")),
+        );
+    }
+    let line = Cmdline::try_from("ab", 8).expect("it fits");
+    let memory = GuestMemoryMmap::<()>::from_ranges(&hole).expect("memory can be mapped");
+    let answer = load_cmdline(&memory, GuestAddress(16), &line).map_err(numbers::of_loader);
+    say(
+        "the line \"ab\" put to address 16, regions 0 to 16 and 18 to 31",
+        "guest memory is one run of bytes from 0",
+        format!("{answer:?} (255: CommandLineCopy)"),
+    );
+}
+
+fn files() {
+    let far = with_image(examples::small_elf(), |image| image[79] = 0x80);
+    let table = with_image(examples::small_elf(), |image| image[39] = 0x80);
+    let note = with_image(far.clone(), |image| image[64] = 4);
+    for (load, what, rules) in [
+        (examples::small_elf(), "the small image", "load 16, end 24"),
+        (table, "the small image with e_phoff 2^63 + 64", "refused 8"),
+        (
+            far,
+            "the small image with p_offset 2^63 + 120",
+            "refused 10",
+        ),
+        (note, "the same as a note header", "refused 11"),
+    ] {
+        let path = std::env::temp_dir().join(format!("compare-image-{}", std::process::id()));
+        std::fs::write(&path, &load.image).expect("a temporary file can be written");
+        let mut file = File::open(&path).expect("it was just written");
+        let memory = memory_of(&load);
+        let answer = outcome(run::<Elf>(&memory, &mut file));
+        std::fs::remove_file(&path).expect("it is there");
+        say(&format!("ELF from a file, {what}"), rules, answer);
+    }
+}
+
+fn high_bytes() {
+    let inserted = |text: &str| {
+        let mut line = Cmdline::new(64).expect("64 is a capacity");
+        match line.insert_str(text).and_then(|()| line.as_cstring()) {
+            Ok(written) => format!("{written:?}"),
+            Err(error) => refused(numbers::of_cmdline(error)),
+        }
+    };
+    let whole = |text: &str, capacity| match Cmdline::try_from(text, capacity)
+        .and_then(|line| line.as_cstring())
+    {
+        Ok(written) => format!("{written:?}"),
+        Err(error) => refused(numbers::of_cmdline(error)),
+    };
+    say(
+        "insert_str(\"\u{e9}\"), bytes C3 A9",
+        "refused 42",
+        inserted("\u{e9}"),
+    );
+    say(
+        "insert_str of the no-break space, bytes C2 A0",
+        "refused 42: only 9 to 13 and 32 are trimmed",
+        inserted("\u{a0}"),
+    );
+    say(
+        "insert_str of the next-line control, bytes C2 85",
+        "refused 42",
+        inserted("\u{85}"),
+    );
+    say(
+        "try_from(\"\u{e9}\", 3)",
+        "accepted: C3 A9 and the zero",
+        whole("\u{e9}", 3),
+    );
+    say(
+        "try_from of the no-break space, capacity 1",
+        "refused 41: it is not trimmed",
+        whole("\u{a0}", 1),
+    );
+}
+
+fn large_capacities() {
+    say(
+        "new(4097)",
+        "refused 41",
+        Cmdline::new(4097).map_or_else(|error| format!("{error}"), |_| "accepted".into()),
+    );
+    let long = "a".repeat(4096);
+    say(
+        "try_from of 4,096 times \"a\", capacity 4097",
+        "refused 41",
+        Cmdline::try_from(&long, 4097)
+            .map_or_else(|error| format!("{error}"), |_| "accepted".into()),
+    );
+    say(
+        "new(the greatest usize), then insert_str(\"a\")",
+        "refused 41",
+        Cmdline::new(usize::MAX)
+            .and_then(|mut line| line.insert_str("a"))
+            .map_or_else(|error| format!("{error}"), |()| "accepted".into()),
+    );
+}
+
+fn memory_of(load: &Load) -> GuestMemoryMmap {
+    let region = (GuestAddress(0), load.guest.len());
+    let memory = GuestMemoryMmap::from_ranges(&[region]).expect("memory can be mapped");
+    memory
+        .write_slice(&load.guest, GuestAddress(0))
+        .expect("the content fits");
+    memory
+}
+
+/// The load's outcome, and which guest bytes it changed.
+fn loaded<L: KernelLoader>(load: &Load) -> String {
+    let memory = memory_of(load);
+    let answer = outcome(run::<L>(&memory, &mut Cursor::new(&load.image)));
+    let after = content(&memory, load.guest.len());
+    let changed: Vec<String> = (0..after.len())
+        .filter(|place| after[*place] != load.guest[*place])
+        .map(|place| place.to_string())
+        .collect();
+    if changed.is_empty() {
+        format!("{answer}, nothing written")
+    } else {
+        format!("{answer}, written: {}", changed.join(" "))
+    }
+}
+
+type Outcome = Option<Result<KernelLoaderResult, u8>>;
+
+/// What a load answers, or nothing where it panics.
+fn run<L: KernelLoader>(
+    memory: &GuestMemoryMmap,
+    image: &mut (impl Read + ReadVolatile + Seek),
+) -> Outcome {
+    let load = || L::load(memory, None, image, None).map_err(numbers::of_loader);
+    catch_unwind(AssertUnwindSafe(load)).ok()
+}
+
+fn outcome(outcome: Outcome) -> String {
+    match outcome {
+        Some(Ok(loaded)) => {
+            let (load, end) = (loaded.kernel_load.raw_value(), loaded.kernel_end);
+            format!("load {load}, end {end}")
+        }
+        Some(Err(number)) => refused(number),
+        None => "panics".into(),
+    }
+}
+
+fn refused(number: u8) -> String {
+    if number == UNNUMBERED {
+        "refused with an error that has no number".into()
+    } else {
+        format!("refused {number}")
+    }
+}

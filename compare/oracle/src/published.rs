@@ -1,0 +1,151 @@
+//! The published crate as a backend, asked only inside its domain.
+
+use crate::guest::{content, Guests};
+use crate::lines;
+use crate::numbers;
+use driver::answer::{Answer, BzimageLoaded, ElfLoaded, NoteWalked, Pvh};
+use driver::backend::{Backend, Reply};
+use driver::compare;
+use driver::domain::{self, WALK_FRONT};
+use driver::examples::put;
+use driver::question::{LineLoad, Load, Options, Question, Walk};
+use linux_loader::loader::elf::PvhBootCapability;
+use linux_loader::loader::{load_cmdline, BzImage, Elf, KernelLoader, KernelLoaderResult};
+use std::io::Cursor;
+use std::panic::{catch_unwind, AssertUnwindSafe};
+use vm_memory::{Address, ByteValued, GuestAddress, GuestMemoryMmap};
+
+#[derive(Default)]
+pub struct Published {
+    guests: Guests,
+}
+
+impl Backend for Published {
+    fn name(&self) -> &str {
+        "crate"
+    }
+
+    fn ask(&mut self, question: &Question) -> Reply {
+        if !domain::asks_crate(question) {
+            return Reply::Outside;
+        }
+        // a panic is a difference to be shown, not the end of the run
+        let answered = catch_unwind(AssertUnwindSafe(|| self.answer(question)));
+        answered.map_or(Reply::Line("(panicked)".into()), Reply::Answer)
+    }
+
+    fn agrees(&self, question: &Question, wanted: &Answer, reply: &Reply) -> bool {
+        compare::agrees_but_for_failed_copy(question, wanted, reply)
+    }
+}
+
+type Loaded = Result<KernelLoaderResult, u8>;
+
+impl Published {
+    fn answer(&mut self, question: &Question) -> Answer {
+        match question {
+            Question::Elf(load) => self.elf(load),
+            Question::Note(walk) => Answer::Note(self.note(walk)),
+            Question::Bzimage(load) => self.bzimage(load),
+            Question::Line(calls) => Answer::Line(lines::answer_calls(calls).0),
+            Question::LineLoad(load) => self.line_load(load),
+        }
+    }
+
+    fn elf(&mut self, load: &Load) -> Answer {
+        let memory = self.guests.holding(&load.guest);
+        let outcome = run::<Elf>(memory, load.options, &load.image);
+        Answer::Elf {
+            outcome: outcome.map(|loaded| ElfLoaded {
+                load: loaded.kernel_load.raw_value(),
+                end: loaded.kernel_end,
+                pvh: pvh(loaded.pvh_boot_cap),
+            }),
+            guest: content(memory, load.guest.len()),
+        }
+    }
+
+    fn bzimage(&mut self, load: &Load) -> Answer {
+        let memory = self.guests.holding(&load.guest);
+        let outcome = run::<BzImage>(memory, load.options, &load.image);
+        Answer::Bzimage {
+            outcome: outcome.map(|loaded| BzimageLoaded {
+                load: loaded.kernel_load.raw_value(),
+                end: loaded.kernel_end,
+                header: loaded
+                    .setup_header
+                    .map_or(vec![], |header| header.as_slice().to_vec()),
+            }),
+            guest: content(memory, load.guest.len()),
+        }
+    }
+
+    /// The crate walks notes inside an ELF load alone, so the walk is asked as the load of an image with one note header.
+    fn note(&mut self, walk: &Walk) -> Result<NoteWalked, u8> {
+        let mut image = vec![0; WALK_FRONT as usize];
+        put(&mut image, 0, b"\x7fELF\x02\x01\x01");
+        put(&mut image, 32, &64u64.to_le_bytes());
+        put(&mut image, 54, &56u16.to_le_bytes());
+        put(&mut image, 56, &1u16.to_le_bytes());
+        put(&mut image, 64, &4u32.to_le_bytes());
+        put(&mut image, 72, &(walk.place + WALK_FRONT).to_le_bytes());
+        put(&mut image, 96, &walk.size.to_le_bytes());
+        image.extend(&walk.image);
+        let memory = self.guests.holding(&[0]);
+        let loaded = run::<Elf>(memory, Options::default(), &image)?;
+        Ok(NoteWalked {
+            pvh: pvh(loaded.pvh_boot_cap),
+            headers: None,
+        })
+    }
+
+    fn line_load(&mut self, load: &LineLoad) -> Answer {
+        let (calls, line) = lines::answer_calls(&load.calls);
+        let memory = self.guests.holding(&load.guest);
+        let outcome = load_cmdline(memory, GuestAddress(load.address), &line);
+        Answer::LineLoad {
+            calls,
+            outcome: outcome.map_err(numbers::of_loader),
+            guest: content(memory, load.guest.len()),
+        }
+    }
+}
+
+fn run<L: KernelLoader>(memory: &GuestMemoryMmap, options: Options, image: &[u8]) -> Loaded {
+    let offset = options.offset.map(GuestAddress);
+    let highmem = options.highmem.map(GuestAddress);
+    L::load(memory, offset, &mut Cursor::new(image), highmem).map_err(numbers::of_loader)
+}
+
+fn pvh(capability: PvhBootCapability) -> Pvh {
+    match capability {
+        PvhBootCapability::PvhEntryPresent(address) => Pvh::At(address.raw_value()),
+        PvhBootCapability::PvhEntryNotPresent => Pvh::None,
+        PvhBootCapability::PvhEntryIgnored => Pvh::Ignored,
+    }
+}
+
+#[cfg(test)]
+mod tests {
+    use super::*;
+    use driver::{examples, over_second};
+
+    #[test]
+    fn the_crate_answers_the_worked_examples_as_the_second_program_does() {
+        let mut published = Published::default();
+        for question in examples::all() {
+            let wanted = over_second::answer(&question);
+            let reply = published.ask(&question);
+            assert!(matches!(reply, Reply::Answer(_)));
+            assert!(published.agrees(&question, &wanted, &reply), "{reply:?}");
+        }
+    }
+
+    #[test]
+    fn the_crate_is_not_asked_outside_its_domain() {
+        let mut load = examples::small_elf();
+        load.guest.clear();
+        let reply = Published::default().ask(&Question::Elf(load));
+        assert!(matches!(reply, Reply::Outside));
+    }
+}

@@ -1,0 +1,315 @@
+//! Loading an ELF image into guest memory.
+
+use crate::fields::{range, u16_at, u32_at, u64_at, within_limit, ADDRESS_LIMIT};
+use crate::note::{self, Pvh};
+use crate::Refusal;
+
+const MAGIC: [u8; 4] = [0x7f, 0x45, 0x4c, 0x46];
+const LITTLE_ENDIAN: u8 = 1;
+const HEADER_SIZE: usize = 64;
+const PROGRAM_HEADER_SIZE: usize = 56;
+const TYPE_LOAD: u32 = 1;
+const TYPE_NOTE: u32 = 4;
+
+/// What an accepted load answers.
+#[derive(Clone, Copy, Debug, PartialEq, Eq)]
+pub struct Loaded {
+    pub load: u64,
+    pub end: u64,
+    pub pvh: Pvh,
+}
+
+/// The fields that matter of the header at the start of the image.
+struct Header {
+    entry: u64,
+    table: u64,
+    count: u16,
+}
+
+/// The fields that matter of one program header.
+struct ProgramHeader {
+    kind: u32,
+    offset: u64,
+    address: u64,
+    file_size: u64,
+    memory_size: u64,
+}
+
+/// Loads `image` into `guest`. A refusal leaves the segments before the refused header written.
+pub fn load(
+    image: &[u8],
+    guest: &mut [u8],
+    offset: Option<u64>,
+    highmem: Option<u64>,
+) -> Result<Loaded, Refusal> {
+    within_limit(image.len())?;
+    within_limit(guest.len())?;
+    let header = read_header(image)?;
+    if highmem.is_some_and(|lowest| header.entry < lowest) {
+        return Err(Refusal::InvalidEntryAddress);
+    }
+    let load = moved(header.entry, offset).ok_or(Refusal::Overflow)?;
+    let mut end = 0;
+    let mut pvh = Pvh::Ignored;
+    for program_header in program_headers(image, &header)? {
+        match program_header.kind {
+            TYPE_LOAD if program_header.file_size > 0 => {
+                let segment_end = load_segment(image, guest, offset, &program_header)?;
+                end = end.max(segment_end);
+            }
+            TYPE_NOTE => pvh = pvh_of(image, offset, &program_header)?,
+            _ => {}
+        }
+    }
+    Ok(Loaded { load, end, pvh })
+}
+
+fn read_header(image: &[u8]) -> Result<Header, Refusal> {
+    if image.len() < HEADER_SIZE {
+        return Err(Refusal::ReadElfHeader);
+    }
+    if image[..4] != MAGIC {
+        return Err(Refusal::InvalidElfMagicNumber);
+    }
+    if image[5] != LITTLE_ENDIAN {
+        return Err(Refusal::BigEndianElfOnLittle);
+    }
+    if usize::from(u16_at(image, 54)) != PROGRAM_HEADER_SIZE {
+        return Err(Refusal::InvalidProgramHeaderSize);
+    }
+    let header = Header {
+        entry: u64_at(image, 24),
+        table: u64_at(image, 32),
+        count: u16_at(image, 56),
+    };
+    if header.table < HEADER_SIZE as u64 {
+        return Err(Refusal::InvalidProgramHeaderOffset);
+    }
+    Ok(header)
+}
+
+/// All program headers, in file order, once the whole table is known to stand in the image.
+fn program_headers(image: &[u8], header: &Header) -> Result<Vec<ProgramHeader>, Refusal> {
+    if header.count == 0 {
+        return Ok(Vec::new());
+    }
+    let size = u128::from(header.count) * PROGRAM_HEADER_SIZE as u128;
+    let table =
+        range(image.len(), u128::from(header.table), size).ok_or(Refusal::ReadProgramHeader)?;
+    let entries = image[table].chunks_exact(PROGRAM_HEADER_SIZE);
+    Ok(entries.map(program_header).collect())
+}
+
+fn program_header(bytes: &[u8]) -> ProgramHeader {
+    ProgramHeader {
+        kind: u32_at(bytes, 0),
+        offset: u64_at(bytes, 8),
+        address: u64_at(bytes, 24),
+        file_size: u64_at(bytes, 32),
+        memory_size: u64_at(bytes, 40),
+    }
+}
+
+/// Copies one segment and answers where it ends in guest memory.
+fn load_segment(
+    image: &[u8],
+    guest: &mut [u8],
+    offset: Option<u64>,
+    segment: &ProgramHeader,
+) -> Result<u64, Refusal> {
+    let address = moved(segment.address, offset).ok_or(Refusal::InvalidProgramHeaderAddress)?;
+    let size = u128::from(segment.file_size);
+    let from = range(image.len(), u128::from(segment.offset), size);
+    let to = range(guest.len(), u128::from(address), size);
+    let (Some(from), Some(to)) = (from, to) else {
+        return Err(Refusal::ReadKernelImage);
+    };
+    guest[to].copy_from_slice(&image[from]);
+    moved(address, Some(segment.memory_size)).ok_or(Refusal::MemoryOverflow)
+}
+
+/// What one note header makes of PVH: an image that is moved cannot be entered at its PVH entry point.
+fn pvh_of(image: &[u8], offset: Option<u64>, notes: &ProgramHeader) -> Result<Pvh, Refusal> {
+    if offset.is_some() {
+        return Ok(Pvh::Ignored);
+    }
+    Ok(note::walk(image, notes.offset, notes.file_size)?.pvh)
+}
+
+/// `address` plus what is added to it, if that is still an address.
+fn moved(address: u64, by: Option<u64>) -> Option<u64> {
+    let sum = u128::from(address) + u128::from(by.unwrap_or(0));
+    if sum < ADDRESS_LIMIT {
+        Some(sum as u64)
+    } else {
+        None
+    }
+}
+
+#[cfg(test)]
+mod tests {
+    use super::*;
+
+    fn put(image: &mut [u8], place: usize, bytes: &[u8]) {
+        image[place..place + bytes.len()].copy_from_slice(bytes);
+    }
+
+    /// One segment of three bytes for address 16, taking 8 bytes of memory.
+    fn small() -> Vec<u8> {
+        let mut image = vec![0; 123];
+        put(&mut image, 0, &MAGIC);
+        image[5] = 1;
+        image[24] = 16;
+        image[32] = 64;
+        image[54] = 56;
+        image[56] = 1;
+        image[64] = 1;
+        image[72] = 120;
+        image[88] = 16;
+        image[96] = 3;
+        image[104] = 8;
+        put(&mut image, 120, &[0xaa, 0xbb, 0xcc]);
+        image
+    }
+
+    fn loaded(load: u64, end: u64, pvh: Pvh) -> Result<Loaded, Refusal> {
+        Ok(Loaded { load, end, pvh })
+    }
+
+    #[test]
+    fn the_segment_is_copied_and_nothing_else_touched() {
+        let mut guest = [0x55; 32];
+        let answer = load(&small(), &mut guest, None, None);
+        assert_eq!(answer, loaded(16, 24, Pvh::Ignored));
+        let mut wanted = [0x55; 32];
+        wanted[16..19].copy_from_slice(&[0xaa, 0xbb, 0xcc]);
+        assert_eq!(guest, wanted);
+    }
+
+    #[test]
+    fn an_offset_moves_load_address_end_and_bytes() {
+        let mut guest = [0; 32];
+        let answer = load(&small(), &mut guest, Some(4), None);
+        assert_eq!(answer, loaded(20, 28, Pvh::Ignored));
+        assert_eq!(guest[20..23], [0xaa, 0xbb, 0xcc]);
+    }
+
+    #[test]
+    fn only_the_bytes_of_the_file_must_fit_the_guest() {
+        assert_eq!(
+            load(&small(), &mut [0; 19], None, None),
+            loaded(16, 24, Pvh::Ignored)
+        );
+        let mut guest = [0x55; 18];
+        assert_eq!(
+            load(&small(), &mut guest, None, None),
+            Err(Refusal::ReadKernelImage)
+        );
+        assert_eq!(guest, [0x55; 18]);
+    }
+
+    #[test]
+    fn highmem_is_compared_with_the_entry_before_the_offset() {
+        let mut guest = [0; 64];
+        assert!(load(&small(), &mut guest, None, Some(16)).is_ok());
+        let refused = Err(Refusal::InvalidEntryAddress);
+        assert_eq!(load(&small(), &mut guest, None, Some(17)), refused);
+        assert_eq!(load(&small(), &mut guest, Some(4), Some(17)), refused);
+        assert_eq!(
+            load(&small(), &mut guest, Some(u64::MAX), Some(17)),
+            refused
+        );
+    }
+
+    #[test]
+    fn header_tests_come_in_their_order() {
+        let mut image = small();
+        let ask = |image: &[u8]| load(image, &mut [0; 32], Some(u64::MAX), None).unwrap_err();
+        assert_eq!(ask(&image), Refusal::Overflow);
+        image[32] = 63;
+        assert_eq!(ask(&image), Refusal::InvalidProgramHeaderOffset);
+        image[55] = 1;
+        assert_eq!(ask(&image), Refusal::InvalidProgramHeaderSize);
+        image[5] = 2;
+        assert_eq!(ask(&image), Refusal::BigEndianElfOnLittle);
+        image[3] = 0;
+        assert_eq!(ask(&image), Refusal::InvalidElfMagicNumber);
+        assert_eq!(ask(&image[..63]), Refusal::ReadElfHeader);
+    }
+
+    #[test]
+    fn the_table_must_stand_in_the_image_only_if_it_has_headers() {
+        let mut image = small();
+        image[33] = 0xff;
+        let answer = load(&image, &mut [0; 32], None, None);
+        assert_eq!(answer, Err(Refusal::ReadProgramHeader));
+        image[56] = 0;
+        let answer = load(&image, &mut [0; 32], None, None);
+        assert_eq!(answer, loaded(16, 0, Pvh::Ignored));
+    }
+
+    #[test]
+    fn a_memory_size_over_the_last_address_is_refused_after_the_copy() {
+        let mut image = small();
+        put(&mut image, 104, &(u64::MAX - 15).to_le_bytes());
+        let mut guest = [0; 32];
+        assert_eq!(
+            load(&image, &mut guest, None, None),
+            Err(Refusal::MemoryOverflow)
+        );
+        assert_eq!(guest[16..19], [0xaa, 0xbb, 0xcc]);
+        put(&mut image, 104, &(u64::MAX - 16).to_le_bytes());
+        assert_eq!(
+            load(&image, &mut guest, None, None),
+            loaded(16, u64::MAX, Pvh::Ignored)
+        );
+    }
+
+    #[test]
+    fn an_address_that_leaves_64_bits_is_refused_before_the_copy() {
+        let mut image = small();
+        put(&mut image, 88, &u64::MAX.to_le_bytes());
+        let answer = load(&image, &mut [0; 32], Some(1), None);
+        assert_eq!(answer, Err(Refusal::InvalidProgramHeaderAddress));
+        let answer = load(&image, &mut [0; 32], Some(0), None);
+        assert_eq!(answer, Err(Refusal::ReadKernelImage));
+    }
+
+    #[test]
+    fn a_segment_without_file_bytes_does_not_raise_the_end() {
+        let mut image = small();
+        image[96] = 0;
+        assert_eq!(
+            load(&image, &mut [0; 1], None, None),
+            loaded(16, 0, Pvh::Ignored)
+        );
+    }
+
+    #[test]
+    fn the_last_note_header_decides() {
+        let mut image = small();
+        image[56] = 2;
+        image.truncate(64);
+        for size in [20u8, 0] {
+            let mut entry = [0; 56];
+            entry[0] = 4;
+            entry[8] = 176;
+            entry[32] = size;
+            image.extend(entry);
+        }
+        image.extend(*b"\x04\0\0\0\x04\0\0\0\x12\0\0\0Xen\0\x00\x00\x10\x00");
+        assert_eq!(
+            load(&image, &mut [], None, None),
+            loaded(16, 0, Pvh::NotPresent)
+        );
+        assert_eq!(
+            load(&image, &mut [], Some(0), None),
+            loaded(16, 0, Pvh::Ignored)
+        );
+        image[56] = 1;
+        assert_eq!(
+            load(&image, &mut [], None, None),
+            loaded(16, 0, Pvh::Present(0x10_0000))
+        );
+    }
+}
