@@ -29,18 +29,18 @@ unfolding digitsBefore readOn
 read-before zero b n later lo hi h l = absurd (not-suc-le-zero l)
 read-before (suc f) b n later lo hi h l =
     let more : 1 ≤ f → n / b < b ^ f → readOn b 0 (digitsBefore f b (n / b) (digit (n % b) ∷ later)) ≡ readOn b (n / b) (digit (n % b) ∷ later) =
-    λ a q. read-before f b (n / b) (digit (n % b) ∷ later) lo hi q a in
+        λ a q. read-before f b (n / b) (digit (n % b) ∷ later) lo hi q a in
     pick-with (λ (ds : List ℕ). readOn b 0 ds ≡ readOn b n later) (ltb n b)
     (λ e.
-    let small = ltb-true n b e in
-    ap (λ (k : ℕ). readOn b k later) (let v = digit-value n (omega arith) in let z : 0 * b + valueOf (digit n) ≡ n = omega arith in z))
+      let small = ltb-true n b e in
+      ap (λ (k : ℕ). readOn b k later) (let v = digit-value n (omega arith) in let z : 0 * b + valueOf (digit n) ≡ n = omega arith in z))
     (λ e.
-    let w = two-left b n (suc f) l (ltb-false n b e) h in
-    let d : n / b < b ^ (suc f - 1) = down b n (suc f) lo l h in
-    let q : suc f - 1 ≡ f = omega arith in
-    let r = mod-lt n {m = b} lo in
-    more (omega arith) (rw q at d)
-    ∙ ap (λ (k : ℕ). readOn b k later) (ap (λ (k : ℕ). n / b * b + k) (digit-value (n % b) (omega arith)) ∙ div-add-mod' n b))
+      let w = two-left b n (suc f) l (ltb-false n b e) h in
+      let d : n / b < b ^ (suc f - 1) = down b n (suc f) lo l h in
+      let q : suc f - 1 ≡ f = omega arith in
+      let r = mod-lt n {m = b} lo in
+      more (omega arith) (rw q at d)
+      ∙ ap (λ (k : ℕ). readOn b k later) (ap (λ (k : ℕ). n / b * b + k) (digit-value (n % b) (omega arith)) ∙ div-add-mod' n b))
 
 pub digits-read : (b n : ℕ) → 0 < b → b ≤ 16 → n < b ^ 20 → readOn b 0 (digits b n) ≡ n
 unfolding readOn
@@ -57,18 +57,18 @@ unfolding digitsBefore
 leads zero b n later lo h l = absurd (not-suc-le-zero l)
 leads (suc f) b n later lo h l =
     let more : 1 ≤ f → n / b < b ^ f → getD (digitsBefore f b (n / b) (digit (n % b) ∷ later)) 0 0 ≡ 48 → n / b ≡ 0 =
-    λ a q. leads f b (n / b) (digit (n % b) ∷ later) lo q a in
+        λ a q. leads f b (n / b) (digit (n % b) ∷ later) lo q a in
     pick-with (λ (ds : List ℕ). getD ds 0 0 ≡ 48 → n ≡ 0) (ltb n b) (λ e z. digit-zero n z)
     (λ e z.
-    let w = two-left b n (suc f) l (ltb-false n b e) h in
-    let d : n / b < b ^ (suc f - 1) = down b n (suc f) lo l h in
-    let q : suc f - 1 ≡ f = omega arith in
-    let none = more (omega arith) (rw q at d) z in
-    let r = mod-lt n {m = b} lo in
-    let whole : n / b * b + n % b ≡ n = div-add-mod' n b in
-    let whole' : 0 * b + n % b ≡ n = rw none at whole in
-    let big = ltb-false n b e in
-    absurd (omega arith))
+      let w = two-left b n (suc f) l (ltb-false n b e) h in
+      let d : n / b < b ^ (suc f - 1) = down b n (suc f) lo l h in
+      let q : suc f - 1 ≡ f = omega arith in
+      let none = more (omega arith) (rw q at d) z in
+      let r = mod-lt n {m = b} lo in
+      let whole : n / b * b + n % b ≡ n = div-add-mod' n b in
+      let whole' : 0 * b + n % b ≡ n = rw none at whole in
+      let big = ltb-false n b e in
+      absurd (omega arith))
 
 pub no-leading-zero : (b n : ℕ) → 0 < b → n < b ^ 20 → getD (digits b n) 0 0 ≡ 48 → n ≡ 0
 no-leading-zero b n lo h = leads 20 b n [] lo h (omega arith)

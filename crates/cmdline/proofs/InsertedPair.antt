@@ -37,5 +37,5 @@ inserted-pair t key value accepted =
       capacity = refl;
       size =
           rw (kept, joined-long (t .boot) (pair key value))
-          (size-after-boot (length (t .boot)) (length (t .init)) (bootGap (length (t .boot))) (length (pair key value)));
+          (size-after-boot (length (t .boot)) (length (t .init)) (bootGap (length (t .boot))) (length (pair key value)))
     }

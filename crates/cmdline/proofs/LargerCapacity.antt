@@ -88,24 +88,20 @@ module _ (c : ℕ) (t : Text) (more : t .capacity ≤ c) where
   same-call : (k : Calls.Call) → (Calls.RefusedForRoom (Calls.calling k t .said) → ⊥)
       → (Calls.calling k (under c t) ≡ same-step c (Calls.calling k t)) × (Calls.calling k t .text .capacity ≡ t .capacity)
   unfolding Calls.calling insert insertStr insertInitArgs insertMultiple addDevice
-  same-call (Calls.inserts key value) none = (
-    same-planned c t (insert t key value) (insert (under c t) key value) (widens-after (keyTests key ++ valueTests value) (str-widens (pair key value))) refl none,
-    same-capacity c t (insert t key value) (insert t key value) refl,
-  )
-  same-call (Calls.inserts-multiple key values ends) none = (
-    same-planned c t (insertMultiple t key values ends) (insertMultiple (under c t) key values ends) (widens-after (listPre key values ends) (str-widens (key ++ listed equals 0 ends values))) refl none,
-    same-capacity c t (insertMultiple t key values ends) (insertMultiple t key values ends) refl,
-  )
+  same-call (Calls.inserts key value) none =
+      (same-planned c t (insert t key value) (insert (under c t) key value) (widens-after (keyTests key ++ valueTests value) (str-widens (pair key value))) refl none,
+        same-capacity c t (insert t key value) (insert t key value) refl)
+  same-call (Calls.inserts-multiple key values ends) none =
+      (same-planned c t (insertMultiple t key values ends) (insertMultiple (under c t) key values ends) (widens-after (listPre key values ends) (str-widens (key ++ listed equals 0 ends values))) refl none,
+        same-capacity c t (insertMultiple t key values ends) (insertMultiple t key values ends) refl)
   same-call (Calls.inserts-str slug) none =
       (same-planned c t (insertStr t slug) (insertStr (under c t) slug) (str-widens slug) refl none, same-capacity c t (insertStr t slug) (insertStr t slug) refl)
-  same-call (Calls.inserts-init-args slug) none = (
-    same-planned c t (insertInitArgs t slug) (insertInitArgs (under c t) slug) (init-widens slug) refl none,
-    same-capacity c t (insertInitArgs t slug) (insertInitArgs t slug) refl,
-  )
-  same-call (Calls.adds-device size base irq id) none = (
-    same-planned c t (addDevice t size base irq id) (addDevice (under c t) size base irq id) (widens-after ((not (eqb size 0), refusal.MmioSize) ∷ []) (str-widens (deviceText size base irq id))) refl none,
-    same-capacity c t (addDevice t size base irq id) (addDevice t size base irq id) refl,
-  )
+  same-call (Calls.inserts-init-args slug) none =
+      (same-planned c t (insertInitArgs t slug) (insertInitArgs (under c t) slug) (init-widens slug) refl none,
+        same-capacity c t (insertInitArgs t slug) (insertInitArgs t slug) refl)
+  same-call (Calls.adds-device size base irq id) none =
+      (same-planned c t (addDevice t size base irq id) (addDevice (under c t) size base irq id) (widens-after ((not (eqb size 0), refusal.MmioSize) ∷ []) (str-widens (deviceText size base irq id))) refl none,
+        same-capacity c t (addDevice t size base irq id) (addDevice t size base irq id) refl)
   same-call (Calls.writes room) none =
       (ap (λ (s : Calls.Said). record { said = s; text = under c t }) (same-written c t (writeGate t room)), refl)
   same-call (Calls.compares other) none = (refl, refl)

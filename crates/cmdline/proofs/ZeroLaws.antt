@@ -50,7 +50,7 @@ held-zero l t b z e s =
     let si = s .init in
     record {
       boot = λ i h. past-stored (t .boot) (l .boot) 0 i (omega arith) ∙ z .boot i (omega arith);
-      init = λ i h. past-stored (t .init) (l .init) 0 i (omega arith) ∙ z .init i (omega arith);
+      init = λ i h. past-stored (t .init) (l .init) 0 i (omega arith) ∙ z .init i (omega arith)
     }
 
 -- ---- a reply, and a making
@@ -86,6 +86,6 @@ made-zero p told cap = split (gateOf p) refl
         let si = s .init in
         record {
           boot = λ i h. past-stored (p .text .boot) (replicate limit 0) 0 i (omega arith) ∙ zeros limit i;
-          init = λ i h. past-stored (p .text .init) (replicate limit 0) 0 i (omega arith) ∙ zeros limit i;
+          init = λ i h. past-stored (p .text .init) (replicate limit 0) 0 i (omega arith) ∙ zeros limit i
         }
     split (Shut r) o = blank-zero 0

@@ -5,8 +5,8 @@ ghost use lib.ListN.{length, take};
 ghost use Rattle.cmdline.specs.Device.{sizeText, frontText, idText, deviceText};
 ghost use Rattle.slugs.specs.Stored.{Stored};
 use crate::DeviceId;
-use crate::digits;
 use slugs::buffers;
+use crate::digits;
 
 // A size in G, M or K by the largest that divides, else the bare number.
 fn put_size(d: &mut [u8], at: usize, size: u64) -> usize

@@ -6,10 +6,10 @@ ghost use lib.ListN.{length, getD};
 ghost use lib.Seq.{sets};
 ghost use Rattle.cmdline.specs.Limit.{limit};
 ghost use Rattle.cmdline.specs.Writing.{headed, wholeOf, gateOf, sameBytes, sameAnswer};
-use answers::Gate;
-use answers::Refusal;
 use slugs::buffers;
 use slugs::bytes;
+use answers::Gate;
+use answers::Refusal;
 
 // No init text, or boot text before it.
 fn is_headed(boots: usize, inits: usize) -> bool

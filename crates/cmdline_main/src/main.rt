@@ -138,19 +138,9 @@ fn devices() {
     say_reply(empty(100).add_virtio_mmio_device(4096, GuestAddress(4096), 5, DeviceId::Number(42)));
     say_reply(empty(100).add_virtio_mmio_device(0, GuestAddress(4096), 5, DeviceId::Nothing));
     say_reply(empty(100).add_virtio_mmio_device(3221225472, GuestAddress(0), 0, DeviceId::Nothing));
-    say_reply(empty(100).add_virtio_mmio_device(
-        5242880,
-        GuestAddress(0xfedc_ba98),
-        10,
-        DeviceId::Nothing,
-    ));
+    say_reply(empty(100).add_virtio_mmio_device(5242880, GuestAddress(0xfedc_ba98), 10, DeviceId::Nothing));
     say_reply(empty(100).add_virtio_mmio_device(1025, GuestAddress(1), 1, DeviceId::Number(0)));
-    say_reply(empty(81).add_virtio_mmio_device(
-        0xFFFF_FFFF_FFFF_FFFF,
-        GuestAddress(0xFFFF_FFFF_FFFF_FFFF),
-        0xFFFF_FFFF,
-        DeviceId::Number(0xFFFF_FFFF),
-    ));
+    say_reply(empty(81).add_virtio_mmio_device(0xFFFF_FFFF_FFFF_FFFF, GuestAddress(0xFFFF_FFFF_FFFF_FFFF), 0xFFFF_FFFF, DeviceId::Number(0xFFFF_FFFF)));
 }
 
 fn texts() {

@@ -2,9 +2,9 @@
 ghost use mathlib.Core.Path.{_≡_};
 ghost use Rattle.answers.specs.Tests.{askedAll};
 ghost use Rattle.slugs.specs.Keys.{keyTests};
-use crate::bytes;
 use answers::Gate;
 use answers::Refusal;
+use crate::bytes;
 
 pub fn ask(gate: Gate, key: &[u8]) -> Gate
     ensures { λ r. ⌜ r ≡ askedAll gate (keyTests (now (key .entry))) ⌝ }

@@ -4,9 +4,9 @@ ghost use mathlib.Core.Bool.{not, _||_};
 ghost use Rattle.answers.specs.Tests.{askedAll};
 ghost use Rattle.slugs.specs.Bytes.{quote, has};
 ghost use Rattle.slugs.specs.Values.{quoted, inner, protected, valueTests};
-use crate::bytes;
 use answers::Gate;
 use answers::Refusal;
+use crate::bytes;
 
 // Two bytes or more, with a quote at each end.
 fn is_quoted(s: &[u8]) -> bool
