@@ -36,11 +36,11 @@ pub const LIMIT: usize = 4096;
 // The two texts, each at the start of its buffer with zeros after it, and the greatest counted size. A length or a capacity above
 // LIMIT, which no function here makes, counts as LIMIT.
 pub struct Cmdline {
-    boot: [u8; LIMIT],
-    boots: usize,
-    init: [u8; LIMIT],
-    inits: usize,
-    capacity: usize,
+    pub boot: [u8; LIMIT],
+    pub boots: usize,
+    pub init: [u8; LIMIT],
+    pub inits: usize,
+    pub capacity: usize,
 }
 
 // What a call says.

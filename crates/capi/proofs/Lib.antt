@@ -1,0 +1,2 @@
+pub mod LoadsLaws
+pub mod Outcomes

@@ -1,0 +1,113 @@
+-- Laws of the entry points of a load: what they come to where what is lent has its size, and where it has not.
+use Prim.Native.Nat.{ℕ}
+use mathlib.Core.Path.{_≡_, refl, ap, _∙_}
+use mathlib.Core.Bool.{Bool, true, false, _&&_}
+use mathlib.Core.List.{List}
+use lib.Dec.{eqb}
+use lib.ListN.{length}
+use lib.Seq.{sets}
+use borrow.Author.Tests.{eq-eqb, ne-eqb}
+use Rattle.answers.specs.Pick.{pick}
+use Rattle.answers.specs.Catalogue.{numberOf}
+use Rattle.answers.specs.declared.Refusal.the-variants.{NoRoom}
+use Rattle.guest.specs.declared.Given.{Given}
+use Rattle.elf.specs.declared.Answer.{Answer}
+use Rattle.elf.specs.declared.ElfNote.{ElfNote}
+use Rattle.elf.specs.Load.{answerNumber, noteNumber, answerOf, LoadSays}
+use Rattle.elf.specs.Notes.{publicNote}
+use Rattle.elf.specs.Pouring.{poured}
+use Rattle.bzimage.specs.declared.Outcome.{Outcome}
+use Rattle.bzimage.specs.Answers as bzimage-answers
+use Rattle.bzimage.specs.Plan.{planOf, guestAfter, Loads}
+use Rattle.bzimage.specs.SetupHeader.{headerSize}
+use Rattle.capi.specs.Loads.{loadValues, noteValues, headerBytes, Tells, BzImageTells, ElfLoads, ElfNotes, BzImageLoads, bzImageSized}
+
+-- the first of two where the test holds, and the second where it fails
+picks : {A : Type 0} {b : Bool} {a x : A} (y : A) → b ≡ true → a ≡ x → a ≡ pick b x y
+unfolding pick
+picks y h e = rw h e
+
+passes : {A : Type 0} {b : Bool} {a y : A} (x : A) → b ≡ false → a ≡ y → a ≡ pick b x y
+unfolding pick
+passes x h e = rw h e
+
+-- ---- an ELF load
+
+module _ (image : List ℕ) (offset highmem : Given) (guest out : List ℕ) where
+  pub elf-unsized : {r : ℕ} → (length out ≡ 4 → ⊥) → r ≡ numberOf NoRoom → ElfLoads image offset highmem guest out r guest out
+  elf-unsized other e =
+      let f = ne-eqb (length out) 4 other in
+      let a = answerOf image (length guest) offset highmem in
+      record {
+        answer = passes (answerNumber a) f e;
+        memory = passes (poured image offset highmem guest) f refl;
+        told = passes (sets out 0 (loadValues a)) f refl;
+      }
+
+  pub elf-sized : {o h : Given} {a : Answer} {r : ℕ} {after left : List ℕ} → length out ≡ 4 → o ≡ offset → h ≡ highmem → LoadSays image o h guest a after
+      → Tells (answerNumber a) (loadValues a) out r left → ElfLoads image offset highmem guest out r after left
+  elf-sized {o} {h} {a} same eo eh says tells =
+      let t = eq-eqb (length out) 4 same in
+      let is : a ≡ answerOf image (length guest) offset highmem = says .answer ∙ rw (eo, eh) in
+      record {
+        answer = picks (numberOf NoRoom) t (tells .answer ∙ ap answerNumber is);
+        memory = picks guest t (says .memory ∙ rw (eo, eh));
+        told = picks out t (tells .told ∙ ap (λ (x : Answer). sets out 0 (loadValues x)) is);
+      }
+
+-- ---- a note walk
+
+module _ (image : List ℕ) (p-offset p-filesz : ℕ) (out : List ℕ) where
+  abbrev walk : ElfNote
+  walk = publicNote image (record { 0 = p-offset }) p-filesz
+
+  pub note-unsized : {r : ℕ} → (length out ≡ 3 → ⊥) → r ≡ numberOf NoRoom → ElfNotes image p-offset p-filesz out r out
+  note-unsized other e =
+      let f = ne-eqb (length out) 3 other in
+      record { answer = passes (noteNumber (walk .answer)) f e; told = passes (sets out 0 (noteValues (walk .answer) (walk .headers))) f refl }
+
+  pub note-sized : {n : ElfNote} {r : ℕ} {left : List ℕ} → length out ≡ 3 → n ≡ walk
+      → Tells (noteNumber (n .answer)) (noteValues (n .answer) (n .headers)) out r left → ElfNotes image p-offset p-filesz out r left
+  note-sized same is tells =
+      let t = eq-eqb (length out) 3 same in
+      record {
+        answer = picks (numberOf NoRoom) t (tells .answer ∙ ap (λ (x : ElfNote). noteNumber (x .answer)) is);
+        told = picks out t (tells .told ∙ ap (λ (x : ElfNote). sets out 0 (noteValues (x .answer) (x .headers))) is);
+      }
+
+-- ---- a bzImage load
+
+module _ (image : List ℕ) (offset highmem : Given) (guest out header : List ℕ) where
+  unsized : {r : ℕ} → bzImageSized out header ≡ false → r ≡ numberOf NoRoom
+      → BzImageLoads image offset highmem guest out header r guest out header
+  unsized f e =
+      let plan = planOf image (length guest) offset highmem in
+      record {
+        answer = passes (bzimage-answers.answerNumber (plan .answer)) f e;
+        memory = passes (guestAfter image offset highmem guest) f refl;
+        told = passes (sets out 0 (bzimage-answers.answerValues (plan .answer))) f refl;
+        setup = passes (sets header 0 (headerBytes (plan .answer) (plan .«setup_header»))) f refl;
+      }
+
+  pub bzimage-unsized-out : {r : ℕ} → (length out ≡ 2 → ⊥) → r ≡ numberOf NoRoom → BzImageLoads image offset highmem guest out header r guest out header
+  unfolding bzImageSized
+  bzimage-unsized-out other e = unsized (rw (ne-eqb (length out) 2 other)) e
+
+  pub bzimage-unsized-header : {r : ℕ} → length out ≡ 2 → (length header ≡ headerSize → ⊥) → r ≡ numberOf NoRoom
+      → BzImageLoads image offset highmem guest out header r guest out header
+  unfolding bzImageSized
+  bzimage-unsized-header same other e = unsized (rw (eq-eqb (length out) 2 same, ne-eqb (length header) headerSize other)) e
+
+  pub bzimage-sized : {o h : Given} {outcome : Outcome} {r : ℕ} {after left setup : List ℕ} → length out ≡ 2 → length header ≡ headerSize → o ≡ offset
+      → h ≡ highmem → Loads image o h guest outcome after → BzImageTells outcome out header r left setup
+      → BzImageLoads image offset highmem guest out header r after left setup
+  unfolding bzImageSized
+  bzimage-sized {o} {h} {outcome} same sameh eo eh loads tells =
+      let t : bzImageSized out header ≡ true = rw (eq-eqb (length out) 2 same, eq-eqb (length header) headerSize sameh) in
+      let is : outcome ≡ planOf image (length guest) offset highmem = loads .outcome ∙ rw (eo, eh) in
+      record {
+        answer = picks (numberOf NoRoom) t (tells .answer ∙ ap (λ (x : Outcome). bzimage-answers.answerNumber (x .answer)) is);
+        memory = picks guest t (loads .written ∙ rw (eo, eh));
+        told = picks out t (tells .told ∙ ap (λ (x : Outcome). sets out 0 (bzimage-answers.answerValues (x .answer))) is);
+        setup = picks header t (tells .setup ∙ ap (λ (x : Outcome). sets header 0 (headerBytes (x .answer) (x .«setup_header»))) is);
+      }

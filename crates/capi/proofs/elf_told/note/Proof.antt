@@ -1,0 +1,31 @@
+-- `elf_told::note`: what is said is stored value by value; a refusal stores nothing.
+use borrow.Author.Needs.{needs}
+use mathlib.Core.Path.{refl}
+use Rattle.elf.specs.Load.{noteNumber}
+use Rattle.capi.specs.Loads.{noteValues}
+use Rattle.capi.proofs.elf_told.note.Statement.{statement}
+use Rattle.capi.proofs.elf_told.note.Tie as tie
+
+returns : tie.Need-returns
+unfolding noteNumber noteValues
+returns c = rw (c .before .before .before .answer .given .1) (record { answer = refl; told = rw (c .before .pvh-code .ensures, c .pvh-address .ensures) })
+
+returns-2 : tie.Need-returns-2
+unfolding noteNumber noteValues
+returns-2 c = rw (c .before .before .answer2 .given .1) (record { answer = c .number .ensures; told = refl })
+
+pub note-spec : {M : Type 1} → statement M
+note-spec =
+    tie.close
+    (tie.spec
+    (λ c. search needs)
+    (λ c κs. search needs)
+    (λ c. search needs)
+    (λ c κs. search needs)
+    (λ c. search needs)
+    (λ c. search needs)
+    (λ c. search needs)
+    (λ c κs. search needs)
+    (λ c. search needs)
+    returns
+    returns-2)

@@ -1,0 +1,123 @@
+-- What the entry points of a load answer and leave. A list that is lent for values has one size; with another nothing is done.
+use Prim.Native.Nat.{ℕ, _/_, _%_}
+use mathlib.Core.Path.{_≡_}
+use mathlib.Core.Bool.{Bool, _&&_}
+use mathlib.Core.List.{List, [], _∷_}
+use lib.Dec.{eqb}
+use lib.ListN.{length}
+use lib.Seq.{sets}
+use Rattle.answers.specs.Pick.{pick}
+use Rattle.answers.specs.Catalogue.{numberOf}
+use Rattle.answers.specs.declared.Refusal.the-variants.{NoRoom}
+use Rattle.guest.specs.declared.Given.{Given}
+use Rattle.guest.specs.declared.Given.the-variants.{Nothing, At}
+use Rattle.elf.specs.declared.PvhBootCapability.{PvhBootCapability}
+use Rattle.elf.specs.declared.PvhBootCapability.the-variants.{PvhEntryPresent, PvhEntryNotPresent, PvhEntryIgnored}
+use Rattle.elf.specs.declared.Answer as elf
+use Rattle.elf.specs.declared.Answer.the-variants as elf-answer
+use Rattle.elf.specs.declared.NoteAnswer.{NoteAnswer}
+use Rattle.elf.specs.declared.NoteAnswer.the-variants as note
+use Rattle.elf.specs.Load.{answerNumber, noteNumber, answerOf}
+use Rattle.elf.specs.Notes.{publicNote}
+use Rattle.elf.specs.Pouring.{poured}
+use Rattle.bzimage.specs.declared.Answer as bzimage
+use Rattle.bzimage.specs.declared.Answer.the-variants as bzimage-answer
+use Rattle.bzimage.specs.declared.Outcome.{Outcome}
+use Rattle.bzimage.specs.Answers as bzimage-answers
+use Rattle.bzimage.specs.Plan.{planOf, guestAfter}
+use Rattle.bzimage.specs.SetupHeader.{headerSize}
+
+-- ---- options
+
+-- an address, given where its bit is 1
+unfoldable pub givenBy : ℕ → ℕ → Given
+givenBy bit address = pick (eqb bit 1) (At (record { 0 = address })) Nothing
+
+-- bit 0 of the flags gives the offset, bit 1 the start of high memory
+abbrev pub offsetOf : ℕ → ℕ → Given
+offsetOf flags address = givenBy (flags % 2) address
+
+abbrev pub highmemOf : ℕ → ℕ → Given
+highmemOf flags address = givenBy (flags / 2 % 2) address
+
+-- ---- values
+
+-- PVH as a number: 0 where it is ignored, 1 where there is no entry, 2 where there is one
+unfoldable pub pvhCode : PvhBootCapability → ℕ
+pvhCode PvhEntryIgnored = 0
+pvhCode PvhEntryNotPresent = 1
+pvhCode (PvhEntryPresent address) = 2
+
+-- its address, 0 where there is none
+unfoldable pub pvhAddress : PvhBootCapability → ℕ
+pvhAddress PvhEntryIgnored = 0
+pvhAddress PvhEntryNotPresent = 0
+pvhAddress (PvhEntryPresent address) = address .0
+
+-- the values of an ELF load: load address, end, and PVH; a refusal has none
+unfoldable pub loadValues : elf.Answer → List ℕ
+loadValues (elf-answer.Loaded k) =
+    k .«kernel_load» .0 ∷ k .«kernel_end» .0 ∷ pvhCode (k .«pvh_boot_cap») ∷ pvhAddress (k .«pvh_boot_cap») ∷ []
+loadValues (elf-answer.Refused refusal) = []
+
+-- of a note walk: PVH, and the headers that were read
+unfoldable pub noteValues : NoteAnswer → ℕ → List ℕ
+noteValues (note.Says said) headers = pvhCode said ∷ pvhAddress said ∷ headers ∷ []
+noteValues (note.Refused refusal) headers = []
+
+-- the bytes that a bzImage load leaves in a lent header
+unfoldable pub headerBytes : bzimage.Answer → List ℕ → List ℕ
+headerBytes (bzimage-answer.Loaded k) bytes = bytes
+headerBytes (bzimage-answer.Refused refusal) bytes = []
+
+-- ---- what is told of an answer: its number; its values stand from the first place on, and a refusal leaves the list as it was
+
+pub record Tells (number : ℕ) (values out : List ℕ) (r : ℕ) (left : List ℕ) : Type 0 where
+  pub answer : r ≡ number
+  pub told : left ≡ sets out 0 values
+
+-- the same of a bzImage load, and the setup header
+pub record BzImageTells (outcome : Outcome) (out header : List ℕ) (r : ℕ) (out-left header-left : List ℕ) : Type 0 where
+  pub answer : r ≡ bzimage-answers.answerNumber (outcome .answer)
+  pub told : out-left ≡ sets out 0 (bzimage-answers.answerValues (outcome .answer))
+  pub setup : header-left ≡ sets header 0 (headerBytes (outcome .answer) (outcome .«setup_header»))
+
+-- ---- the entry points, by whether what is lent has its size
+
+-- what is done where the sizes are right, else the refusal's number
+abbrev pub numberWhere : Bool → ℕ → ℕ
+numberWhere sized number = pick sized number (numberOf NoRoom)
+
+-- what is left where they are, else what was there
+abbrev pub leftWhere : Bool → List ℕ → List ℕ → List ℕ
+leftWhere sized left was = pick sized left was
+
+-- an ELF load
+pub record ElfLoads (image : List ℕ) (offset highmem : Given) (guest out : List ℕ) (r : ℕ) (guest-left out-left : List ℕ) : Type 0 where
+  pub answer : r ≡ numberWhere (eqb (length out) 4) (answerNumber (answerOf image (length guest) offset highmem))
+  pub memory : guest-left ≡ leftWhere (eqb (length out) 4) (poured image offset highmem guest) guest
+  pub told : out-left ≡ leftWhere (eqb (length out) 4) (sets out 0 (loadValues (answerOf image (length guest) offset highmem))) out
+
+-- a note walk
+pub record ElfNotes (image : List ℕ) (p-offset p-filesz : ℕ) (out : List ℕ) (r : ℕ) (left : List ℕ) : Type 0 where
+  pub answer : r ≡ numberWhere (eqb (length out) 3) (noteNumber (publicNote image (record { 0 = p-offset }) p-filesz .answer))
+  pub told :
+      left
+      ≡ leftWhere (eqb (length out) 3)
+      (sets out 0
+      (noteValues (publicNote image (record { 0 = p-offset }) p-filesz .answer) (publicNote image (record { 0 = p-offset }) p-filesz .headers)))
+      out
+
+-- two places for the values, and the setup header's own size
+unfoldable pub bzImageSized : List ℕ → List ℕ → Bool
+bzImageSized out header = eqb (length out) 2 && eqb (length header) headerSize
+
+-- a bzImage load
+pub record BzImageLoads (image : List ℕ) (offset highmem : Given) (guest out header : List ℕ) (r : ℕ) (guest-left out-left header-left : List ℕ) : Type 0 where
+  pub answer : r ≡ numberWhere (bzImageSized out header) (bzimage-answers.answerNumber (planOf image (length guest) offset highmem .answer))
+  pub memory : guest-left ≡ leftWhere (bzImageSized out header) (guestAfter image offset highmem guest) guest
+  pub told : out-left ≡ leftWhere (bzImageSized out header) (sets out 0 (bzimage-answers.answerValues (planOf image (length guest) offset highmem .answer))) out
+  pub setup :
+      header-left
+      ≡ leftWhere (bzImageSized out header)
+      (sets header 0 (headerBytes (planOf image (length guest) offset highmem .answer) (planOf image (length guest) offset highmem .«setup_header»))) header
