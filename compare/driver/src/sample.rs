@@ -35,8 +35,15 @@ struct Sources {
     published: usize,
     /// The published crate, with what it does not tell taken from the second program.
     completed: usize,
-    /// The second program, for the question lies outside the crate's domain.
-    second: usize,
+    /// The second program, for the question lies outside the crate's domain: the lines of these answers.
+    second: Vec<usize>,
+}
+
+impl Sources {
+    /// The line that is answered next, counted from 1.
+    fn next_line(&self) -> usize {
+        self.published + self.completed + self.second.len() + 1
+    }
 }
 
 /// Writes `stdin` and `stdout` into the folder.
@@ -63,8 +70,10 @@ pub fn write(folder: &Path, published: Option<&Maker>) -> Result<()> {
         lines.len(),
         sources.published,
         sources.completed,
-        sources.second
+        sources.second.len()
     );
+    let alone: Vec<String> = sources.second.iter().map(usize::to_string).collect();
+    println!("the second program alone: lines {}", alone.join(" "));
     Ok(())
 }
 
@@ -72,7 +81,7 @@ pub fn write(folder: &Path, published: Option<&Maker>) -> Result<()> {
 fn answer(question: &Question, reply: &Reply, sources: &mut Sources) -> Answer {
     let second = over_second::answer(question);
     let Reply::Answer(answer) = reply else {
-        sources.second += 1;
+        sources.second.push(sources.next_line());
         return second;
     };
     let whole = compare::completed(question, answer, &second);
