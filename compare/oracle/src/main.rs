@@ -16,6 +16,17 @@ fn main() {
     let published: Maker = Box::new(|| Box::new(published::Published::default()));
     cli::main(InProcess {
         published: Some(published),
-        library: None,
+        library: library(),
     });
+}
+
+/// The proved code, where it was linked.
+#[cfg(feature = "library")]
+fn library() -> Option<Maker> {
+    Some(Box::new(|| Box::new(proved::Proved)))
+}
+
+#[cfg(not(feature = "library"))]
+fn library() -> Option<Maker> {
+    None
 }
