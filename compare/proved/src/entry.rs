@@ -35,4 +35,84 @@ extern "C" {
         header: *mut u8,
         header_len: usize,
     ) -> u32;
+
+    pub fn rekusoyen_line_new(line: *mut u8, line_len: usize, capacity: u64) -> u32;
+
+    pub fn rekusoyen_line_try_from(
+        line: *mut u8,
+        line_len: usize,
+        text: *const u8,
+        text_len: usize,
+        capacity: u64,
+    ) -> u32;
+
+    pub fn rekusoyen_line_insert(
+        line: *mut u8,
+        line_len: usize,
+        key: *const u8,
+        key_len: usize,
+        value: *const u8,
+        value_len: usize,
+    ) -> u32;
+
+    pub fn rekusoyen_line_insert_multiple(
+        line: *mut u8,
+        line_len: usize,
+        key: *const u8,
+        key_len: usize,
+        values: *const u8,
+        values_len: usize,
+        ends: *const usize,
+        ends_len: usize,
+    ) -> u32;
+
+    pub fn rekusoyen_line_insert_str(
+        line: *mut u8,
+        line_len: usize,
+        slug: *const u8,
+        slug_len: usize,
+    ) -> u32;
+
+    pub fn rekusoyen_line_insert_init_args(
+        line: *mut u8,
+        line_len: usize,
+        slug: *const u8,
+        slug_len: usize,
+    ) -> u32;
+
+    pub fn rekusoyen_line_add_virtio_mmio_device(
+        line: *mut u8,
+        line_len: usize,
+        size: u64,
+        address: u64,
+        irq: u32,
+        has_id: u32,
+        id: u32,
+    ) -> u32;
+
+    pub fn rekusoyen_line_as_cstring(
+        line: *const u8,
+        line_len: usize,
+        out: *mut u8,
+        out_len: usize,
+        count: *mut u64,
+        count_len: usize,
+    ) -> u32;
+
+    pub fn rekusoyen_line_equal(
+        a: *const u8,
+        a_len: usize,
+        b: *const u8,
+        b_len: usize,
+        out: *mut u64,
+        out_len: usize,
+    ) -> u32;
+
+    pub fn rekusoyen_line_load(
+        guest: *mut u8,
+        guest_len: usize,
+        address: u64,
+        line: *const u8,
+        line_len: usize,
+    ) -> u32;
 }

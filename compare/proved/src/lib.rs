@@ -1,10 +1,11 @@
-//! The proved code in this process: loads and note walks. Line calls are asked over the pipe.
+//! The proved code in this process.
 
 mod entry;
+mod lines;
+mod loads;
 
-use driver::answer::{Answer, BzimageLoaded, ElfLoaded, NoteWalked, Pvh};
 use driver::backend::{Backend, Reply};
-use driver::question::{Load, Options, Question, Walk};
+use driver::question::Question;
 
 pub struct Proved;
 
@@ -14,25 +15,13 @@ impl Backend for Proved {
     }
 
     fn ask(&mut self, question: &Question) -> Reply {
-        match question {
-            Question::Elf(load) => Reply::Answer(elf(load)),
-            Question::Note(walk) => Reply::Answer(note(walk)),
-            Question::Bzimage(load) => Reply::Answer(bzimage(load)),
-            Question::Line(_) | Question::LineLoad(_) => Reply::Outside,
-        }
-    }
-}
-
-/// Bit 0: an offset is given; bit 1: highmem is.
-fn flags(options: Options) -> u32 {
-    u32::from(options.offset.is_some()) + 2 * u32::from(options.highmem.is_some())
-}
-
-fn pvh(code: u64, address: u64) -> Pvh {
-    match code {
-        0 => Pvh::Ignored,
-        1 => Pvh::None,
-        _ => Pvh::At(address),
+        Reply::Answer(match question {
+            Question::Elf(load) => loads::elf(load),
+            Question::Note(walk) => loads::note(walk),
+            Question::Bzimage(load) => loads::bzimage(load),
+            Question::Line(calls) => lines::calls(calls),
+            Question::LineLoad(load) => lines::load(load),
+        })
     }
 }
 
@@ -42,79 +31,4 @@ fn outcome<T>(number: u32, accepted: impl FnOnce() -> T) -> Result<T, u8> {
         0 => Ok(accepted()),
         refusal => Err(u8::try_from(refusal).expect("a refusal's number has one byte")),
     }
-}
-
-fn elf(load: &Load) -> Answer {
-    let mut guest = load.guest.clone();
-    let mut out = [0u64; 4];
-    let options = load.options;
-    // SAFETY: each pointer is that of a slice, with its own length, which lives through the call; `guest` and `out` are lent to it
-    // alone.
-    let number = unsafe {
-        entry::rekusoyen_elf_load(
-            guest.as_mut_ptr(),
-            guest.len(),
-            load.image.as_ptr(),
-            load.image.len(),
-            flags(options),
-            options.offset.unwrap_or(0),
-            options.highmem.unwrap_or(0),
-            out.as_mut_ptr(),
-            out.len(),
-        )
-    };
-    let outcome = outcome(number, || ElfLoaded {
-        load: out[0],
-        end: out[1],
-        pvh: pvh(out[2], out[3]),
-    });
-    Answer::Elf { outcome, guest }
-}
-
-fn note(walk: &Walk) -> Answer {
-    let mut out = [0u64; 3];
-    // SAFETY: as above; the image is read only.
-    let number = unsafe {
-        entry::rekusoyen_elf_note(
-            walk.image.as_ptr(),
-            walk.image.len(),
-            walk.place,
-            walk.size,
-            out.as_mut_ptr(),
-            out.len(),
-        )
-    };
-    Answer::Note(outcome(number, || NoteWalked {
-        pvh: pvh(out[0], out[1]),
-        headers: Some(out[2]),
-    }))
-}
-
-fn bzimage(load: &Load) -> Answer {
-    let mut guest = load.guest.clone();
-    let mut out = [0u64; 2];
-    let mut header = [0u8; 123];
-    let options = load.options;
-    // SAFETY: as above; `header` is lent to the call alone too.
-    let number = unsafe {
-        entry::rekusoyen_bzimage_load(
-            guest.as_mut_ptr(),
-            guest.len(),
-            load.image.as_ptr(),
-            load.image.len(),
-            flags(options),
-            options.offset.unwrap_or(0),
-            options.highmem.unwrap_or(0),
-            out.as_mut_ptr(),
-            out.len(),
-            header.as_mut_ptr(),
-            header.len(),
-        )
-    };
-    let outcome = outcome(number, || BzimageLoaded {
-        load: out[0],
-        end: out[1],
-        header: header.to_vec(),
-    });
-    Answer::Bzimage { outcome, guest }
 }

@@ -1,0 +1,93 @@
+//! Loads of images, and walks over notes.
+
+use crate::{entry, outcome};
+use driver::answer::{Answer, BzimageLoaded, ElfLoaded, NoteWalked, Pvh};
+use driver::question::{Load, Options, Walk};
+
+/// Bit 0: an offset is given; bit 1: highmem is.
+fn flags(options: Options) -> u32 {
+    u32::from(options.offset.is_some()) + 2 * u32::from(options.highmem.is_some())
+}
+
+fn pvh(code: u64, address: u64) -> Pvh {
+    match code {
+        0 => Pvh::Ignored,
+        1 => Pvh::None,
+        _ => Pvh::At(address),
+    }
+}
+
+pub fn elf(load: &Load) -> Answer {
+    let mut guest = load.guest.clone();
+    let mut out = [0u64; 4];
+    let options = load.options;
+    // SAFETY: each pointer is that of a slice, with its own length, which lives through the call; `guest` and `out` are lent to it
+    // alone.
+    let number = unsafe {
+        entry::rekusoyen_elf_load(
+            guest.as_mut_ptr(),
+            guest.len(),
+            load.image.as_ptr(),
+            load.image.len(),
+            flags(options),
+            options.offset.unwrap_or(0),
+            options.highmem.unwrap_or(0),
+            out.as_mut_ptr(),
+            out.len(),
+        )
+    };
+    let outcome = outcome(number, || ElfLoaded {
+        load: out[0],
+        end: out[1],
+        pvh: pvh(out[2], out[3]),
+    });
+    Answer::Elf { outcome, guest }
+}
+
+pub fn note(walk: &Walk) -> Answer {
+    let mut out = [0u64; 3];
+    // SAFETY: as above; the image is read only.
+    let number = unsafe {
+        entry::rekusoyen_elf_note(
+            walk.image.as_ptr(),
+            walk.image.len(),
+            walk.place,
+            walk.size,
+            out.as_mut_ptr(),
+            out.len(),
+        )
+    };
+    Answer::Note(outcome(number, || NoteWalked {
+        pvh: pvh(out[0], out[1]),
+        headers: Some(out[2]),
+    }))
+}
+
+pub fn bzimage(load: &Load) -> Answer {
+    let mut guest = load.guest.clone();
+    let mut out = [0u64; 2];
+    let mut header = [0u8; 123];
+    let options = load.options;
+    // SAFETY: as above; `header` is lent to the call alone too.
+    let number = unsafe {
+        entry::rekusoyen_bzimage_load(
+            guest.as_mut_ptr(),
+            guest.len(),
+            load.image.as_ptr(),
+            load.image.len(),
+            flags(options),
+            options.offset.unwrap_or(0),
+            options.highmem.unwrap_or(0),
+            out.as_mut_ptr(),
+            out.len(),
+            header.as_mut_ptr(),
+            header.len(),
+        )
+    };
+    let outcome = outcome(number, || BzimageLoaded {
+        load: out[0],
+        end: out[1],
+        header: header.to_vec(),
+    });
+    Answer::Bzimage { outcome, guest }
+}
