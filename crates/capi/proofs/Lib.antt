@@ -1,2 +1,3 @@
 pub mod LoadsLaws
+pub mod LinesLaws
 pub mod Outcomes

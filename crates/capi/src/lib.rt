@@ -1,11 +1,19 @@
 // What a monitor links: the functions of the other crates under C names, over numbers and lent slices. Each answers a refusal's number, or
 // 0 where the call is accepted. A lent list or buffer that must have a size and has another is refused before anything is done.
+ghost use Rattle.cmdline.specs.Insertion.{insert, insertMultiple, insertStr, insertInitArgs};
+ghost use Rattle.cmdline.specs.Device.{addDevice};
+ghost use Rattle.cmdline.specs.Making.{new, tryFrom};
+ghost use Rattle.capi.specs.Lines.{textIn, idBy, LineMakes, LineCalls, LineWrites, LinesCompare, LineLoadsFrom};
 ghost use Rattle.capi.specs.Loads.{offsetOf, highmemOf, ElfLoads, ElfNotes, BzImageLoads};
+use answers::Gate;
 use answers::Refusal;
+use cmdline::Cmdline;
+use guest::GuestAddress;
 use guest::ImagePlace;
 
 mod bzimage_told;
 mod elf_told;
+mod lines;
 mod options;
 
 // ---- loads
@@ -74,4 +82,156 @@ pub extern "C" fn rekusoyen_bzimage_load(
     let highmem_start = options::highmem(flags, highmem);
     let outcome = bzimage::load(guest, image, kernel_offset, highmem_start);
     bzimage_told::load(out, header, outcome)
+}
+
+// ---- lines, in bytes that the caller lends
+
+// An empty line, over whatever the bytes held.
+#[no_mangle]
+pub extern "C" fn rekusoyen_line_new(line: &mut [u8], capacity: u64) -> u32
+    ensures { λ r. ⌜ LineMakes (now (line .entry)) (new capacity) r (now (line .exit)) ⌝ }
+{
+    let gate = answers::require(Gate::Open, line.len() == lines::SIZE, Refusal::NoRoom);
+    let reply = Cmdline::new(capacity as usize);
+    lines::settle(line, gate, reply)
+}
+
+// A line from its text, over whatever the bytes held.
+#[no_mangle]
+pub extern "C" fn rekusoyen_line_try_from(line: &mut [u8], text: &[u8], capacity: u64) -> u32
+    ensures { λ r. ⌜ LineMakes (now (line .entry)) (tryFrom (now (text .entry)) capacity) r (now (line .exit)) ⌝ }
+{
+    let gate = answers::require(Gate::Open, line.len() == lines::SIZE, Refusal::NoRoom);
+    let reply = Cmdline::try_from(text, capacity as usize);
+    lines::settle(line, gate, reply)
+}
+
+// A key, an equals sign and a value, after the boot text.
+#[no_mangle]
+pub extern "C" fn rekusoyen_line_insert(line: &mut [u8], key: &[u8], value: &[u8]) -> u32
+    ensures { λ r. ⌜ LineCalls (now (line .entry)) (insert (textIn (now (line .entry))) (now (key .entry)) (now (value .entry))) r (now (line .exit)) ⌝ }
+{
+    let held = lines::look(Gate::Open, line);
+    let gate = held.gate;
+    let before = held.line;
+    let reply = before.insert(key, value);
+    lines::settle(line, gate, reply)
+}
+
+// A key, an equals sign and values joined by commas, after the boot text. The values stand one after the other, and `ends` has the end of each.
+#[no_mangle]
+pub extern "C" fn rekusoyen_line_insert_multiple(
+    line: &mut [u8],
+    key: &[u8],
+    values: &[u8],
+    ends: &[usize],
+) -> u32
+    ensures { λ r. ⌜ LineCalls (now (line .entry)) (insertMultiple (textIn (now (line .entry))) (now (key .entry)) (now (values .entry)) (now (ends .entry))) r (now (line .exit)) ⌝ }
+{
+    let held = lines::look(Gate::Open, line);
+    let gate = held.gate;
+    let before = held.line;
+    let reply = before.insert_multiple(key, values, ends);
+    lines::settle(line, gate, reply)
+}
+
+// A slug, after the boot text.
+#[no_mangle]
+pub extern "C" fn rekusoyen_line_insert_str(line: &mut [u8], slug: &[u8]) -> u32
+    ensures { λ r. ⌜ LineCalls (now (line .entry)) (insertStr (textIn (now (line .entry))) (now (slug .entry))) r (now (line .exit)) ⌝ }
+{
+    let held = lines::look(Gate::Open, line);
+    let gate = held.gate;
+    let before = held.line;
+    let reply = before.insert_str(slug);
+    lines::settle(line, gate, reply)
+}
+
+// A slug, after the init text.
+#[no_mangle]
+pub extern "C" fn rekusoyen_line_insert_init_args(line: &mut [u8], slug: &[u8]) -> u32
+    ensures { λ r. ⌜ LineCalls (now (line .entry)) (insertInitArgs (textIn (now (line .entry))) (now (slug .entry))) r (now (line .exit)) ⌝ }
+{
+    let held = lines::look(Gate::Open, line);
+    let gate = held.gate;
+    let before = held.line;
+    let reply = before.insert_init_args(slug);
+    lines::settle(line, gate, reply)
+}
+
+// The text of a virtio device, after the boot text. A has_id of 0: the device has no ID.
+#[no_mangle]
+pub extern "C" fn rekusoyen_line_add_virtio_mmio_device(
+    line: &mut [u8],
+    size: u64,
+    address: u64,
+    irq: u32,
+    has_id: u32,
+    id: u32,
+) -> u32
+    ensures { λ r. ⌜ LineCalls (now (line .entry)) (addDevice (textIn (now (line .entry))) size address irq (idBy «has_id» id)) r (now (line .exit)) ⌝ }
+{
+    let held = lines::look(Gate::Open, line);
+    let gate = held.gate;
+    let before = held.line;
+    let device_id = lines::id_by(has_id, id);
+    let reply = before.add_virtio_mmio_device(size, GuestAddress(address), irq, device_id);
+    lines::settle(line, gate, reply)
+}
+
+// The text of the line and its closing zero, written to the start of `out`; how many bytes, the zero counted, into the one place of `count`.
+#[no_mangle]
+pub extern "C" fn rekusoyen_line_as_cstring(line: &[u8], out: &mut [u8], count: &mut [u64]) -> u32
+    ensures { λ r. ⌜ LineWrites (now (line .entry)) (now (out .entry)) (now (count .entry)) r (now (out .exit)) (now (count .exit)) ⌝ }
+{
+    let gate = answers::require(Gate::Open, count.len() == 1, Refusal::NoRoom);
+    let held = lines::look(gate, line);
+    let gate = held.gate;
+    let text = held.line;
+    match gate {
+        Gate::Shut(refusal) => answers::number(refusal),
+        Gate::Open => {
+            let written = text.as_cstring(out);
+            lines::tell_written(count, written)
+        }
+    }
+}
+
+// Are two lines equal? 1 or 0 into the one place of `out`.
+#[no_mangle]
+pub extern "C" fn rekusoyen_line_equal(a: &[u8], b: &[u8], out: &mut [u64]) -> u32
+    ensures { λ r. ⌜ LinesCompare (now (a .entry)) (now (b .entry)) (now (out .entry)) r (now (out .exit)) ⌝ }
+{
+    let gate = answers::require(Gate::Open, out.len() == 1, Refusal::NoRoom);
+    let held = lines::look(gate, a);
+    let gate = held.gate;
+    let first = held.line;
+    let held = lines::look(gate, b);
+    let gate = held.gate;
+    let second = held.line;
+    match gate {
+        Gate::Shut(refusal) => answers::number(refusal),
+        Gate::Open => {
+            let same = first.eq(second);
+            out[0] = lines::flag(same);
+            0
+        }
+    }
+}
+
+// Writes the line and its zero into guest memory, at an address.
+#[no_mangle]
+pub extern "C" fn rekusoyen_line_load(guest: &mut [u8], address: u64, line: &[u8]) -> u32
+    ensures { λ r. ⌜ LineLoadsFrom (now (line .entry)) address (now (guest .entry)) r (now (guest .exit)) ⌝ }
+{
+    let held = lines::look(Gate::Open, line);
+    let gate = held.gate;
+    let text = held.line;
+    match gate {
+        Gate::Shut(refusal) => answers::number(refusal),
+        Gate::Open => {
+            let answer = loader::load_cmdline(guest, GuestAddress(address), text);
+            lines::load_number(answer)
+        }
+    }
 }

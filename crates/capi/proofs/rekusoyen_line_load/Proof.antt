@@ -1,0 +1,29 @@
+-- `rekusoyen_line_load`: the tests of what is lent, then what loading answers.
+use borrow.Author.Needs.{needs}
+use Rattle.capi.proofs.LinesLaws.{load-refused, load-told}
+use Rattle.capi.proofs.rekusoyen_line_load.Statement.{statement}
+use Rattle.capi.proofs.rekusoyen_line_load.Tie as tie
+
+returns : tie.Need-returns
+returns c =
+    let args = c .before .before .before .before .before .before .before .before .args in
+    load-refused (args .line .now) (args .address) (args .guest .now) (c .before .before .before .before .before .look .ensures) (c .before .before .gate .given .1) (c .number .ensures)
+
+returns-2 : tie.Need-returns-2
+returns-2 c =
+    let args = c .before .before .before .before .before .before .before .before .before .before .before .args in
+    load-told (args .line .now) (args .address) (args .guest .now) (c .before .before .before .before .before .before .before .before .look .ensures) (c .before .before .before .before .before .enum-told .given .1) (c .before .before .before .load-cmdline .ensures) (c .load-number .ensures)
+
+pub rekusoyen-line-load-spec : {M : Type 1} → statement M
+rekusoyen-line-load-spec =
+    tie.close
+    (tie.spec
+    (λ c κs. search needs)
+    (λ c. search needs)
+    (λ c κs. search needs)
+    (λ c. search needs)
+    (λ c κs. search needs)
+    (λ c κs. search needs)
+    returns
+    (λ c. search needs)
+    returns-2)

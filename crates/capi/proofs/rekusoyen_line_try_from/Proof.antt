@@ -1,0 +1,17 @@
+-- `rekusoyen_line_try_from`: the reply of the making, settled over the bytes.
+use borrow.Author.Needs.{needs}
+use Rattle.capi.proofs.rekusoyen_line_try_from.Statement.{statement}
+use Rattle.capi.proofs.rekusoyen_line_try_from.Tie as tie
+
+returns : tie.Need-returns
+returns c = rw (c .before .before .before .before .try-from .ensures, c .before .before .before .before .before .require .ensures) at (c .before .before .settle .ensures)
+
+pub rekusoyen-line-try-from-spec : {M : Type 1} → statement M
+rekusoyen-line-try-from-spec =
+    tie.close
+    (tie.spec
+    (λ c κs. search needs)
+    (λ c κs. search needs)
+    (λ c κs. search needs)
+    (λ c. search needs)
+    returns)
