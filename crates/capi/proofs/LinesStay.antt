@@ -1,15 +1,14 @@
 -- Bytes that hold a line hold one after every call on it, and so do bytes over which one is made: what one function leaves, the next accepts.
 use Prim.Native.Nat.{ℕ, suc, _+_, _-_, _≤_, min}
 use mathlib.Core.Path.{_≡_, refl, sym, ap, subst⁻¹, _∙_}
-use mathlib.Core.Bool.{Bool, true, _&&_}
+use mathlib.Core.Bool.{true}
 use mathlib.Core.List.{List, [], _∷_}
 use native.Mathlib.Omega.{arith}
 use native.Mathlib.Decide.{decLe}
-use lib.Dec.{leb, eqb}
 use lib.ListN.{length, getD, drop, length-drop, List·getD-eq-default}
 use lib.Seq.{sets, getD-drop}
-use borrow.Author.Tests.{eqb-true, eq-eqb, leb-true, le-leb}
-use Rattle.answers.specs.Tests.{askedAll, AllHold}
+use borrow.Author.Tests.{eqb-true, eq-eqb, le-leb}
+use Rattle.answers.specs.Tests.{AllHold}
 use Rattle.answers.specs.declared.Gate.{Gate}
 use Rattle.answers.specs.declared.Gate.the-variants.{Open, Shut}
 use Rattle.answers.proofs.TestsLaws.{open-all, all-open}
@@ -22,16 +21,16 @@ use Rattle.cmdline.specs.Text.{Text, counted}
 use Rattle.cmdline.specs.Insertion.{Plan, gateOf, answerOf, settled, insert, insertMultiple, insertStr, insertInitArgs}
 use Rattle.cmdline.specs.Device.{addDevice}
 use Rattle.cmdline.specs.Making.{new, tryFrom}
-use Rattle.cmdline.specs.Held.{textOf, holding, blankLine, replyOf, madeOf}
+use Rattle.cmdline.specs.Held.{textOf, holding, blankLine, replyOf}
 use Rattle.cmdline.specs.ZeroPast.{Buffers, ZeroPast}
 use Rattle.cmdline.specs.Growing.{Extends}
 use Rattle.cmdline.proofs.CountedSize.{Fits, str-fits, init-fits, insert-fits, multiple-fits, device-fits, new-fits, from-fits}
 use Rattle.cmdline.proofs.NothingLost.{str-extends, init-extends, insert-extends, multiple-extends, device-extends}
-use Rattle.cmdline.proofs.HeldTexts.{Short, fits-short, holds-texts, blank-buffers}
+use Rattle.cmdline.proofs.HeldTexts.{fits-short, holds-texts, buffers-held, blank-buffers}
 use Rattle.cmdline.proofs.MakingLaws.{new-most, from-most}
 use Rattle.cmdline.proofs.ZeroLaws.{reply-zero, reply-buffers, made-zero, made-buffers}
 use Rattle.cmdline.proofs.TextLaws.{size-boot}
-use Rattle.capi.specs.Lines.{lineSize, zero, bufferAt, lineOf, textIn, lineTests, bytesTests, sizeTest, bytesOfLine, answered, LineMakes, LineCalls}
+use Rattle.capi.specs.Lines.{lineSize, bootPlace, initPlace, zero, lineOf, textIn, lineTests, bytesTests, sizeTest, bytesOfLine, answered, LineMakes, LineCalls}
 use Rattle.capi.proofs.ReadBack.{sets-whole, buffer-long, bytes-size, reads-back}
 
 -- bytes of the right size that hold a line
@@ -66,7 +65,7 @@ zeros-tested s n told = all-zero (drop n s) (λ i. getD-drop n s i 0 ∙ told (n
 module _ (bytes : List ℕ) where
   held-buffers : Buffers (lineOf bytes)
   unfolding lineOf
-  held-buffers = record { boot = buffer-long bytes 24; init = buffer-long bytes 4120 }
+  held-buffers = record { boot = buffer-long bytes bootPlace; init = buffer-long bytes initPlace }
 
   held-zero : IsLine bytes → ZeroPast (lineOf bytes)
   unfolding lineTests
@@ -84,13 +83,22 @@ module _ (bytes : List ℕ) where
 line-holds : (l : Cmdline) → ZeroPast l → l .boots ≤ limit → l .inits ≤ limit → 1 ≤ l .capacity → l .capacity ≤ limit → counted (textOf l) ≤ l .capacity
     → AllHold (lineTests l)
 unfolding lineTests
-line-holds l z hb hi least most fits =
-    (le-leb (l .boots) limit hb,
-    (le-leb (l .inits) limit hi,
-    (le-leb 1 (l .capacity) least,
-    (le-leb (l .capacity) limit most,
-    (le-leb (counted (textOf l)) (l .capacity) fits,
-    (zeros-tested (l .boot) (min (l .boots) limit) (z .boot), (zeros-tested (l .init) (min (l .inits) limit) (z .init), tt)))))))
+line-holds l z hb hi least most fits = (
+  le-leb (l .boots) limit hb,
+  (
+    le-leb (l .inits) limit hi,
+    (
+      le-leb 1 (l .capacity) least,
+      (
+        le-leb (l .capacity) limit most,
+        (
+          le-leb (counted (textOf l)) (l .capacity) fits,
+          (zeros-tested (l .boot) (min (l .boots) limit) (z .boot), (zeros-tested (l .init) (min (l .inits) limit) (z .init), tt)),
+        ),
+      ),
+    ),
+  ),
+)
 
 -- its bytes, put over others of the same size, hold a line
 put-holds : (bytes : List ℕ) (l : Cmdline) → length bytes ≡ lineSize → Buffers l → l .boots ≤ limit → l .inits ≤ limit → l .capacity ≤ limit
@@ -139,6 +147,26 @@ call-stays bytes p {r} {left} told grown call is =
         let cap = grown .capacity in
         accepted-holds bytes p (lineOf bytes) e told (λ hold. omega arith) (held-size bytes is) b (reply-buffers (lineOf bytes) p b)
         (reply-zero (lineOf bytes) p told grown b (held-zero bytes is))
+
+-- and the texts that the bytes hold after it are those of the call's plan, or, where it is refused, those that they held
+pub call-texts : (bytes : List ℕ) (p : Plan) {r : ℕ} {left : List ℕ} → (AllHold (p .tests) → Fits (p .text)) → Extends (textIn bytes) (p .text)
+    → LineCalls bytes p r left → IsLine bytes → textIn left ≡ settled (gateOf p) (textIn bytes) (p .text)
+call-texts bytes p {r} {left} told grown call is =
+    ap textIn (call .line ∙ ap (λ (g : Gate). settled g bytes (left-by bytes p (lineOf bytes) (gateOf p))) (all-open (bytesTests bytes) is))
+    ∙ split (gateOf p) refl
+  where
+    split : (g : Gate) → gateOf p ≡ g → textIn (left-by bytes p (lineOf bytes) g) ≡ settled g (textIn bytes) (p .text)
+    split (Shut refusal) e = refl
+    split Open e =
+        let t = p .text in
+        let l = lineOf bytes in
+        let b = held-buffers bytes in
+        let cap = grown .capacity in
+        let short = fits-short t (told (open-all (p .tests) e)) (omega arith) in
+        let kept = buffers-held l t b in
+        ap textIn (sets-whole bytes (bytesOfLine (holding l t)) (bytes-size (holding l t) kept ∙ sym (held-size bytes is)))
+        ∙ ap textOf (reads-back (holding l t) kept (short .boot) (short .init) (short .capacity))
+        ∙ holds-texts l t b short
 
 -- a making that is accepted
 made-holds : (bytes : List ℕ) (p : Plan) {r : ℕ} {left : List ℕ} → (AllHold (p .tests) → Fits (p .text)) → (AllHold (p .tests) → p .text .capacity ≤ limit)

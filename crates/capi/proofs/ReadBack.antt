@@ -3,8 +3,8 @@ use Prim.Native.Nat.{ℕ, zero, suc, _+_, _*_, _/_, _%_, _^_, _≤_, _<_}
 use mathlib.Core.Path.{_≡_, refl, sym, ap, _∙_}
 use mathlib.Core.List.{List, [], _∷_, _++_, append-assoc, append-nil}
 use native.Mathlib.Omega.{arith}
-use native.Mathlib.Nat.{pow-suc, add-zero}
-use lib.ListN.{length, getD, drop, replicate, length-append, length-replicate, drop-of-length-le}
+use native.Mathlib.Nat.{pow-suc}
+use lib.ListN.{length, drop, replicate, length-append, length-replicate, drop-of-length-le}
 use lib.Seq.{sets, sets-eq, length-sets, append-snoc, getD-at, drop-at}
 use Rattle.fields.specs.Numbers.{le}
 use Rattle.fields.proofs.CopyingLaws.{sets-out}
@@ -13,7 +13,7 @@ use Rattle.slugs.proofs.ListLaws.{sets-append}
 use Rattle.cmdline.specs.declared.Cmdline.{Cmdline}
 use Rattle.cmdline.specs.Limit.{limit}
 use Rattle.cmdline.specs.ZeroPast.{Buffers}
-use Rattle.capi.specs.Lines.{lineSize, bufferAt, lineOf, bytesOfLine}
+use Rattle.capi.specs.Lines.{lineSize, bootPlace, initPlace, bufferAt, lineOf, bytesOfLine}
 
 -- ---- a number
 
@@ -64,10 +64,10 @@ module _ (l : Cmdline) (b : Buffers l) where
   front-long : length front ≡ 16
   front-long = length-append (bytesOf 8 (l .boots)) (bytesOf 8 (l .inits)) ∙ rw (bytes-long 8 (l .boots), bytes-long 8 (l .inits))
 
-  numbers-long : length numbers ≡ 24
+  numbers-long : length numbers ≡ bootPlace
   numbers-long = length-append front (bytesOf 8 (l .capacity)) ∙ rw (front-long, bytes-long 8 (l .capacity))
 
-  boot-end : length (numbers ++ l .boot) ≡ 4120
+  boot-end : length (numbers ++ l .boot) ≡ initPlace
   boot-end = length-append numbers (l .boot) ∙ rw (numbers-long, b .boot)
 
   pub bytes-size : length (bytesOfLine l) ≡ lineSize
@@ -82,17 +82,17 @@ module _ (l : Cmdline) (b : Buffers l) where
   at-first : bytesOfLine l ≡ bytesOf 8 (l .boots) ++ (bytesOf 8 (l .inits) ++ (bytesOf 8 (l .capacity) ++ (l .boot ++ l .init)))
   at-first = at-front ∙ append-assoc (bytesOf 8 (l .boots)) (bytesOf 8 (l .inits)) (bytesOf 8 (l .capacity) ++ (l .boot ++ l .init))
 
-  boot-read : bufferAt (bytesOfLine l) 24 ≡ l .boot
+  boot-read : bufferAt (bytesOfLine l) bootPlace ≡ l .boot
   unfolding bufferAt bytesOfLine
   boot-read =
-      ap (λ (s : List ℕ). sets (replicate limit 0) 0 (drop 24 s)) (append-assoc numbers (l .boot) (l .init))
-      ∙ ap (λ (s : List ℕ). sets (replicate limit 0) 0 s) (drop-at numbers (l .boot ++ l .init) 24 numbers-long)
+      ap (λ (s : List ℕ). sets (replicate limit 0) 0 (drop bootPlace s)) (append-assoc numbers (l .boot) (l .init))
+      ∙ ap (λ (s : List ℕ). sets (replicate limit 0) 0 s) (drop-at numbers (l .boot ++ l .init) bootPlace numbers-long)
       ∙ sets-front (replicate limit 0) (l .boot) (l .init) (b .boot ∙ sym blank-long)
 
-  init-read : bufferAt (bytesOfLine l) 4120 ≡ l .init
+  init-read : bufferAt (bytesOfLine l) initPlace ≡ l .init
   unfolding bufferAt bytesOfLine
   init-read =
-      ap (λ (s : List ℕ). sets (replicate limit 0) 0 s) (drop-at (numbers ++ l .boot) (l .init) 4120 boot-end)
+      ap (λ (s : List ℕ). sets (replicate limit 0) 0 s) (drop-at (numbers ++ l .boot) (l .init) initPlace boot-end)
       ∙ sets-whole (replicate limit 0) (l .init) (b .init ∙ sym blank-long)
 
   pub reads-back : l .boots ≤ limit → l .inits ≤ limit → l .capacity ≤ limit → lineOf (bytesOfLine l) ≡ l
