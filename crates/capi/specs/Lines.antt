@@ -35,7 +35,14 @@ use Rattle.capi.specs.declared.lines.Held.{Held}
 
 -- three numbers of 8 bytes, and two buffers
 abbrev pub lineSize : ℕ
-lineSize = 8216
+lineSize = 24 + 2 * limit
+
+-- where the two buffers begin
+abbrev pub bootPlace : ℕ
+bootPlace = 24
+
+abbrev pub initPlace : ℕ
+initPlace = 24 + limit
 
 -- the bytes of a buffer, from a place on; those past the end are 0
 unfoldable pub bufferAt : List ℕ → ℕ → List ℕ
@@ -44,7 +51,7 @@ bufferAt bytes at = sets (replicate limit 0) 0 (drop at bytes)
 -- the line that bytes hold
 unfoldable pub lineOf : List ℕ → Cmdline
 lineOf bytes =
-    record { boot = bufferAt bytes 24; boots = le 8 bytes 0; init = bufferAt bytes 4120; inits = le 8 bytes 8; capacity = le 8 bytes 16 }
+    record { boot = bufferAt bytes bootPlace; boots = le 8 bytes 0; init = bufferAt bytes initPlace; inits = le 8 bytes 8; capacity = le 8 bytes 16 }
 
 -- and its texts
 abbrev pub textIn : List ℕ → Text

@@ -1,7 +1,6 @@
 // The answers of an ELF load and of a note walk, as numbers.
 ghost use mathlib.Core.Path.{_≡_};
 ghost use lib.ListN.{length};
-ghost use lib.Seq.{sets};
 ghost use Rattle.elf.specs.Load.{answerNumber, noteNumber};
 ghost use Rattle.capi.specs.Loads.{pvhCode, pvhAddress, loadValues, noteValues, Tells};
 use elf::Answer;

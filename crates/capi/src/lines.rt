@@ -27,7 +27,12 @@ use fields::numbers;
 use slugs::buffers;
 
 // How many bytes hold a line.
-pub const SIZE: usize = 8216;
+pub const SIZE: usize = 24 + 2 * LIMIT;
+
+// Where the two buffers begin.
+const BOOT: usize = 24;
+
+const INIT: usize = 24 + LIMIT;
 
 // What bytes hold: how their tests end, and the line, which means nothing where one of them fails.
 pub struct Held {
@@ -52,9 +57,9 @@ fn line_of(bytes: &[u8]) -> Cmdline
     let inits = numbers::read_u64(bytes, 8);
     let capacity = numbers::read_u64(bytes, 16);
     Cmdline {
-        boot: buffer(bytes, 24),
+        boot: buffer(bytes, BOOT),
         boots: boots as usize,
-        init: buffer(bytes, 4120),
+        init: buffer(bytes, INIT),
         inits: inits as usize,
         capacity: capacity as usize,
     }
