@@ -11,6 +11,7 @@ mod encode;
 pub mod examples;
 mod generate;
 mod images;
+mod malformed;
 mod over_planted;
 pub mod over_second;
 mod pipe;

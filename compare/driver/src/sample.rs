@@ -6,6 +6,7 @@ use crate::compare;
 use crate::encode::framed;
 use crate::examples;
 use crate::generate;
+use crate::malformed;
 use crate::over_second;
 use crate::question::{Area, Load, Question};
 use crate::rng::Rng;
@@ -60,17 +61,23 @@ pub fn write(folder: &Path, published: Option<&Maker>) -> Result<()> {
         lines += "\n";
         questions.extend(framed(&question));
     }
+    for (question, line) in malformed::all() {
+        questions.extend(question);
+        lines += line;
+        lines += "\n";
+    }
     fs::write(folder.join("stdin"), &questions)?;
     fs::write(folder.join("stdout"), &lines)?;
     println!(
         "sample: {} questions, {} and {} bytes; answered by the crate {}, by the crate with parts from the second program {}, by \
-         the second program alone {}",
+         the second program alone {}; {} do not parse",
         lines.lines().count(),
         questions.len(),
         lines.len(),
         sources.published,
         sources.completed,
-        sources.second.len()
+        sources.second.len(),
+        malformed::all().len()
     );
     let alone: Vec<String> = sources.second.iter().map(usize::to_string).collect();
     println!("the second program alone: lines {}", alone.join(" "));

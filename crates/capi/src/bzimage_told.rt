@@ -7,7 +7,7 @@ use bzimage::Outcome;
 use fields::copying;
 
 // The number of the answer; its values into `out`, and the setup header into `header`.
-pub fn load(out: &mut [u64], header: &mut [u8], outcome: Outcome) -> u32
+pub(crate) fn load(out: &mut [u64], header: &mut [u8], outcome: Outcome) -> u32
     requires { ⌜ length (now out) ≡ 2 ⌝ }
     ensures { λ r. ⌜ BzImageTells outcome (now (out .entry)) (now (header .entry)) r (now (out .exit)) (now (header .exit)) ⌝ }
 {

@@ -29,7 +29,7 @@ fn pvh_address(said: PvhBootCapability) -> u64
 }
 
 // The number of a load's answer; its values into `out`.
-pub fn load(out: &mut [u64], answer: Answer) -> u32
+pub(crate) fn load(out: &mut [u64], answer: Answer) -> u32
     requires { ⌜ length (now out) ≡ 4 ⌝ }
     ensures { λ r. ⌜ Tells (answerNumber answer) (loadValues answer) (now (out .entry)) r (now (out .exit)) ⌝ }
 {
@@ -47,7 +47,7 @@ pub fn load(out: &mut [u64], answer: Answer) -> u32
 }
 
 // The number of a note walk's answer; its values into `out`.
-pub fn note(out: &mut [u64], note: ElfNote) -> u32
+pub(crate) fn note(out: &mut [u64], note: ElfNote) -> u32
     requires { ⌜ length (now out) ≡ 3 ⌝ }
     ensures { λ r. ⌜ Tells (noteNumber (note .answer)) (noteValues (note .answer) (note .headers)) (now (out .entry)) r (now (out .exit)) ⌝ }
 {

@@ -182,7 +182,7 @@ pub fn settle(bytes: &mut [u8], gate: Gate, reply: Reply) -> u32
 }
 
 // The number of what writing says; how many bytes into `count`.
-pub fn tell_written(count: &mut [u64], written: Written) -> u32
+pub(crate) fn tell_written(count: &mut [u64], written: Written) -> u32
     requires { ⌜ length (now count) ≡ 1 ⌝ }
     ensures { λ r. ⌜ Tells (writtenNumber written) (countOf written) (now (count .entry)) r (now (count .exit)) ⌝ }
 {

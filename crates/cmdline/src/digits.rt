@@ -34,7 +34,7 @@ fn spell(d: &mut [u8; 20], base: u64, n: u64) -> usize
 }
 
 // The digits of n, put from a place on; the place after them.
-pub fn put_number(d: &mut [u8], at: usize, base: u64, n: u64) -> usize
+pub(crate) fn put_number(d: &mut [u8], at: usize, base: u64, n: u64) -> usize
     requires { ⌜ (10 ≤ base) × (base ≤ 16) × (n < base ^ 20) ⌝ }
     ensures { λ r. ⌜ Stored (now (d .entry)) at (digits base n) (now (d .exit)) r ⌝ }
 {

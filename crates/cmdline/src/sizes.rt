@@ -41,7 +41,7 @@ pub fn within(capacity: usize, size: usize, n: usize) -> bool
 }
 
 // The counted size: the boot text and its zero, and the separator and the init text if there is init text.
-pub fn counted(boots: usize, inits: usize) -> usize
+pub(crate) fn counted(boots: usize, inits: usize) -> usize
     requires { ⌜ (boots ≤ limit) × (inits ≤ limit) ⌝ }
     ensures { λ r. ⌜ r ≡ sizeOf boots inits ⌝ }
 {

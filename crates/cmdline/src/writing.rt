@@ -82,7 +82,7 @@ fn byte_at(boot: &[u8], init: &[u8], i: usize) -> u8
     init[k - 4]
 }
 
-pub fn same_whole(boot: &[u8], init: &[u8], boot2: &[u8], init2: &[u8]) -> bool
+pub(crate) fn same_whole(boot: &[u8], init: &[u8], boot2: &[u8], init2: &[u8]) -> bool
     requires { ⌜ (length (now boot) ≤ limit) × (length (now init) ≤ limit) × (length (now boot2) ≤ limit) × (length (now init2) ≤ limit) ⌝ }
     ensures { λ r. ⌜ r ≡ sameBytes (wholeOf (now (boot .entry)) (now (init .entry))) (wholeOf (now (boot2 .entry)) (now (init2 .entry))) ⌝ }
 {

@@ -41,7 +41,7 @@ fn pour_segment(guest: &mut [u8], image: &[u8], shift: u64, h: ProgramHeader)
 }
 
 // The segments of the first k program headers, in file order.
-pub fn pour_segments(guest: &mut [u8], image: &[u8], shift: u64, k: u64)
+pub(crate) fn pour_segments(guest: &mut [u8], image: &[u8], shift: u64, k: u64)
     requires { ⌜ HeadersStand (now image) k ⌝ }
     ensures { λ _. ⌜ now (guest .exit) ≡ pour (streamFrom k (now (image .entry)) shift 0) (now (guest .entry)) ⌝ }
 {

@@ -35,7 +35,7 @@ fn place(image: &[u8], i: u64) -> u64
 }
 
 // Program header i, which stands in the image.
-pub fn read_header(image: &[u8], i: u64) -> ProgramHeader
+pub(crate) fn read_header(image: &[u8], i: u64) -> ProgramHeader
     requires { ⌜ headerPlace (now image) i + 56 ≤ length (now image) ⌝ }
     ensures { λ r. ⌜ r ≡ headerOf (now (image .entry)) i ⌝ }
 {

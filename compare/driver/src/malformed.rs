@@ -1,0 +1,34 @@
+//! Questions that do not parse, and the line that each is answered with. `docs/PROBE.md` has the words.
+
+/// Framed questions, in an order in which each is answered: the last is cut short by the end of the input.
+pub fn all() -> Vec<(Vec<u8>, &'static str)> {
+    let lengths = "malformed: the lengths of image and guest";
+    let mut load = vec![1; 26];
+    load[18] = 9;
+    let mut questions: Vec<_> = [
+        (vec![], "malformed: no such kind"),
+        (vec![6], "malformed: no such kind"),
+        (vec![1], lengths),
+        (load, lengths),
+        (vec![3, 0, 0], lengths),
+        (vec![2; 16], "malformed: no place and size"),
+        (vec![4, 11], "line malformed"),
+        (vec![4, 1, 8, 0, 0], "line malformed"),
+        (vec![4, 1, 8, 0, 0, 0, 2, 9, 0, b'a'], "line ok malformed"),
+        (vec![5; 13], "malformed: the length of the guest"),
+    ]
+    .into_iter()
+    .map(|(body, line)| (framed(&body), line))
+    .collect();
+    let mut cut = framed(&[1; 26]);
+    cut.pop();
+    questions.push((cut, "malformed: cut short"));
+    questions
+}
+
+fn framed(body: &[u8]) -> Vec<u8> {
+    let length = u32::try_from(body.len()).expect("a short body");
+    let mut bytes = length.to_le_bytes().to_vec();
+    bytes.extend(body);
+    bytes
+}
