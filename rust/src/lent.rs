@@ -1,0 +1,168 @@
+//! The C entry points of a load, made safe: what is lent lives through the call, and the outputs have the sizes that they must have.
+
+use std::marker::PhantomData;
+
+use crate::entry;
+use crate::refusal::{answered, Refusal};
+use crate::GuestAddress;
+
+/// Guest memory, lent for one call.
+pub(crate) struct Guest<'a> {
+    start: *mut u8,
+    length: usize,
+    lent: PhantomData<&'a mut [u8]>,
+}
+
+impl<'a> From<&'a mut [u8]> for Guest<'a> {
+    fn from(bytes: &'a mut [u8]) -> Self {
+        Guest {
+            start: bytes.as_mut_ptr(),
+            length: bytes.len(),
+            lent: PhantomData,
+        }
+    }
+}
+
+impl Guest<'_> {
+    /// Guest memory that is no slice of Rust's.
+    ///
+    /// # Safety
+    ///
+    /// While the value lives, `length` bytes from `start` on can be read and written, and no reference of Rust's covers any of them.
+    #[cfg(feature = "vm-memory")]
+    pub(crate) unsafe fn at(start: *mut u8, length: usize) -> Self {
+        Guest {
+            start,
+            length,
+            lent: PhantomData,
+        }
+    }
+}
+
+/// Where a load is to put the kernel, if the caller says, and where high memory starts.
+#[derive(Clone, Copy)]
+pub(crate) struct Options {
+    pub offset: Option<GuestAddress>,
+    pub highmem: Option<GuestAddress>,
+}
+
+impl Options {
+    /// Where a segment for an address goes; one that passes 2^64 goes nowhere, and is told as the last address.
+    #[cfg(feature = "vm-memory")]
+    pub(crate) fn moved(&self, address: u64) -> u64 {
+        address.saturating_add(number(self.offset))
+    }
+
+    fn flags(&self) -> u32 {
+        let offset = if self.offset.is_some() {
+            entry::OFFSET_GIVEN
+        } else {
+            0
+        };
+        let highmem = if self.highmem.is_some() {
+            entry::HIGHMEM_GIVEN
+        } else {
+            0
+        };
+        offset | highmem
+    }
+}
+
+/// The address, or a 0 that the flags tell to pass over.
+fn number(address: Option<GuestAddress>) -> u64 {
+    address.map_or(0, |address| address.0)
+}
+
+/// Loads an ELF image: the load address, the kernel's end, PVH and its address.
+pub(crate) fn elf_load(guest: Guest, image: &[u8], options: Options) -> Result<[u64; 4], Refusal> {
+    let mut out = [0; 4];
+    // SAFETY: the guest's bytes can be read and written and nobody else has them, by `Guest`; image and output are slices of
+    // Rust's, the output borrowed by this call alone. The function keeps none of the pointers.
+    let number = unsafe {
+        entry::rekusoyen_elf_load(
+            guest.start,
+            guest.length,
+            image.as_ptr(),
+            image.len(),
+            options.flags(),
+            number(options.offset),
+            number(options.highmem),
+            out.as_mut_ptr(),
+            out.len(),
+        )
+    };
+    answered(number).map(|()| out)
+}
+
+/// Walks the notes of `p_filesz` bytes at `p_offset`: PVH, its address, and how many note headers were read.
+pub(crate) fn elf_note(image: &[u8], p_offset: u64, p_filesz: u64) -> Result<[u64; 3], Refusal> {
+    let mut out = [0; 3];
+    // SAFETY: image and output are slices of Rust's, the output borrowed by this call alone. The function keeps no pointer.
+    let number = unsafe {
+        entry::rekusoyen_elf_note(
+            image.as_ptr(),
+            image.len(),
+            p_offset,
+            p_filesz,
+            out.as_mut_ptr(),
+            out.len(),
+        )
+    };
+    answered(number).map(|()| out)
+}
+
+/// What a bzImage's load gives: the load address, the kernel's end, and the bytes of the setup header.
+pub(crate) struct BzImageLoaded {
+    pub kernel_load: u64,
+    pub kernel_end: u64,
+    pub setup_header: [u8; entry::SETUP_HEADER_SIZE],
+}
+
+/// Loads a bzImage.
+pub(crate) fn bzimage_load(
+    guest: Guest,
+    image: &[u8],
+    options: Options,
+) -> Result<BzImageLoaded, Refusal> {
+    let mut out = [0; 2];
+    let mut setup_header = [0; entry::SETUP_HEADER_SIZE];
+    // SAFETY: the guest's bytes can be read and written and nobody else has them, by `Guest`; the others are slices of Rust's,
+    // both outputs borrowed by this call alone. The function keeps none of the pointers.
+    let number = unsafe {
+        entry::rekusoyen_bzimage_load(
+            guest.start,
+            guest.length,
+            image.as_ptr(),
+            image.len(),
+            options.flags(),
+            number(options.offset),
+            number(options.highmem),
+            out.as_mut_ptr(),
+            out.len(),
+            setup_header.as_mut_ptr(),
+            setup_header.len(),
+        )
+    };
+    let [kernel_load, kernel_end] = out;
+    answered(number).map(|()| BzImageLoaded {
+        kernel_load,
+        kernel_end,
+        setup_header,
+    })
+}
+
+/// Writes a line and its zero into guest memory.
+pub(crate) fn line_load(guest: Guest, address: GuestAddress, line: &[u8]) -> Result<(), Refusal> {
+    // SAFETY: the guest's bytes can be read and written and nobody else has them, by `Guest`; the line is a slice of Rust's. The
+    // function keeps neither pointer.
+    let number = unsafe {
+        entry::rekusoyen_line_load(
+            guest.start,
+            guest.length,
+            address.0,
+            line.as_ptr(),
+            line.len(),
+        )
+    };
+    answered(number)
+}

@@ -1,0 +1,56 @@
+//! A kernel loader that is proved, in the shape of the crate linux-loader 0.14.0: ELF images with their PVH note, bzImages, and the
+//! kernel command line.
+//!
+//! The work is done by a library written in Rattle, every function of which is proved to meet its contract on every input; the
+//! repository around this crate has the code, the definitions and the proofs. This crate gives it linux-loader's module paths,
+//! names and error types, and tests what a C function cannot know.
+//!
+//! Guest memory is a slice that begins at guest address 0:
+//!
+//! ```
+//! use rekusoyen::loader::{load_cmdline_into, BzImage, Cmdline};
+//! use rekusoyen::GuestAddress;
+//!
+//! # let mut image = vec![0u8; 1024 + 3];
+//! # image[0x1f1] = 1; // one setup sector besides the first
+//! # image[0x202..0x206].copy_from_slice(b"HdrS");
+//! # image[0x206..0x208].copy_from_slice(&0x200u16.to_le_bytes());
+//! # image[0x211] = 1; // loaded high
+//! # image[1024..].copy_from_slice(b"abc"); // the kernel
+//! let mut guest = vec![0u8; 0x1000];
+//! let kernel = BzImage::load_into(&mut guest, Some(GuestAddress(0x100)), &image, None)?;
+//! assert_eq!(kernel.kernel_end, 0x103);
+//! assert_eq!(&guest[0x100..0x103], b"abc");
+//!
+//! let mut line = Cmdline::new(64)?;
+//! line.insert("console", "ttyS0")?;
+//! load_cmdline_into(&mut guest, GuestAddress(0x200), &line)?;
+//! assert_eq!(&guest[0x200..0x20e], b"console=ttyS0\0");
+//! # Ok::<(), Box<dyn std::error::Error>>(())
+//! ```
+//!
+//! With the feature `vm-memory`, `loader` has the trait `KernelLoader` and the function `load_cmdline` of linux-loader, with its
+//! signatures: a monitor writes `use rekusoyen::..` for `use linux_loader::..`. Guest memory is then the region that begins at
+//! guest address 0; memory in other regions is no room.
+//!
+//! # Where the answers differ from linux-loader's
+//!
+//! `docs/DIFFERENCES.md` of the repository has every difference. Most to be noticed: a command line's capacity is at most 4,096, and
+//! an image and guest memory have at most 2^40 bytes each.
+
+#[cfg(not(all(target_endian = "little", target_pointer_width = "64")))]
+compile_error!("the proved library is compiled for little-endian processors of 64 bits");
+
+mod address;
+pub mod cmdline;
+pub mod entry;
+mod lent;
+pub mod loader;
+mod refusal;
+
+pub use address::{GuestAddress, GuestUsize};
+pub use refusal::Refusal;
+
+#[cfg(doctest)]
+#[doc = include_str!("../README.md")]
+struct ReadmeExamples;

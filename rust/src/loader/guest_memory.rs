@@ -1,0 +1,153 @@
+//! Loads over the guest memory of the crate vm-memory, with linux-loader's signatures. Guest memory is the region that begins at guest
+//! address 0: memory in other regions is no room.
+
+use std::io::{self, Read, Seek};
+
+use vm_memory::bitmap::Bitmap;
+use vm_memory::{GuestMemoryBackend, GuestMemoryRegion, ReadVolatile};
+
+use super::{bzimage, elf, put_line, BzImage, Cmdline, Elf, KernelLoaderResult, Result};
+use crate::lent::{Guest, Options};
+use crate::GuestAddress;
+
+/// How a kernel of some format is put into guest memory.
+pub trait KernelLoader {
+    /// Loads the whole of `kernel_image` into guest memory.
+    fn load<F, M: GuestMemoryBackend>(
+        guest_mem: &M,
+        kernel_offset: Option<GuestAddress>,
+        kernel_image: &mut F,
+        highmem_start_address: Option<GuestAddress>,
+    ) -> Result<KernelLoaderResult>
+    where
+        F: Read + ReadVolatile + Seek;
+}
+
+impl KernelLoader for Elf {
+    fn load<F, M: GuestMemoryBackend>(
+        guest_mem: &M,
+        kernel_offset: Option<GuestAddress>,
+        kernel_image: &mut F,
+        highmem_start_address: Option<GuestAddress>,
+    ) -> Result<KernelLoaderResult>
+    where
+        F: Read + ReadVolatile + Seek,
+    {
+        kernel_image
+            .rewind()
+            .map_err(|_| elf::Error::SeekElfStart)?;
+        let image = rest_of(kernel_image).map_err(|_| elf::Error::ReadKernelImage)?;
+        let options = Options {
+            offset: kernel_offset,
+            highmem: highmem_start_address,
+        };
+        // a refusal may come after some of the segments
+        let written: Vec<_> = elf::segments(&image)
+            .filter(elf::Segment::is_loadable)
+            .map(|segment| (options.moved(segment.p_paddr), segment.p_filesz))
+            .collect();
+        lend(
+            guest_mem,
+            |guest| elf::load(guest, &image, options),
+            |_| written,
+        )
+    }
+}
+
+impl KernelLoader for BzImage {
+    fn load<F, M: GuestMemoryBackend>(
+        guest_mem: &M,
+        kernel_offset: Option<GuestAddress>,
+        kernel_image: &mut F,
+        highmem_start_address: Option<GuestAddress>,
+    ) -> Result<KernelLoaderResult>
+    where
+        F: Read + ReadVolatile + Seek,
+    {
+        kernel_image
+            .rewind()
+            .map_err(|_| bzimage::Error::SeekBzImageHeader)?;
+        let image = rest_of(kernel_image).map_err(|_| bzimage::Error::ReadBzImageHeader)?;
+        let options = Options {
+            offset: kernel_offset,
+            highmem: highmem_start_address,
+        };
+        lend(
+            guest_mem,
+            |guest| bzimage::load(guest, &image, options),
+            |answer| {
+                let kernels = answer.iter();
+                kernels
+                    .map(|kernel| {
+                        (
+                            kernel.kernel_load.0,
+                            kernel.kernel_end - kernel.kernel_load.0,
+                        )
+                    })
+                    .collect()
+            },
+        )
+    }
+}
+
+/// Writes a line and its closing zero into guest memory. A refusal changes nothing.
+///
+/// ```
+/// use rekusoyen::loader::{load_cmdline, Cmdline};
+/// use vm_memory::{Bytes, GuestAddress, GuestMemoryMmap};
+///
+/// let memory = GuestMemoryMmap::<()>::from_ranges(&[(GuestAddress(0), 0x10000)])?;
+/// let mut line = Cmdline::new(20)?;
+/// line.insert("loglevel", "3")?;
+/// load_cmdline(&memory, GuestAddress(0x1000), &line)?;
+///
+/// let mut written = [0u8; 11];
+/// memory.read_slice(&mut written, GuestAddress(0x1000))?;
+/// assert_eq!(&written, b"loglevel=3\0");
+/// # Ok::<(), Box<dyn std::error::Error>>(())
+/// ```
+pub fn load_cmdline<M: GuestMemoryBackend>(
+    guest_mem: &M,
+    guest_addr: GuestAddress,
+    cmdline: &Cmdline,
+) -> Result<()> {
+    let length = cmdline
+        .as_cstring()
+        .map_or(0, |text| text.as_bytes_with_nul().len() as u64);
+    lend(
+        guest_mem,
+        |guest| put_line(guest, guest_addr, cmdline),
+        |answer| answer.iter().map(|()| (guest_addr.0, length)).collect(),
+    )
+}
+
+/// The bytes that a reader still has.
+fn rest_of(reader: &mut impl Read) -> io::Result<Vec<u8>> {
+    let mut bytes = Vec::new();
+    reader.read_to_end(&mut bytes)?;
+    Ok(bytes)
+}
+
+/// Lends the region at guest address 0 to a call, and tells the region's bitmap what the call wrote: addresses and lengths.
+fn lend<M: GuestMemoryBackend, T>(
+    guest_mem: &M,
+    call: impl FnOnce(Guest) -> Result<T>,
+    written: impl FnOnce(&Result<T>) -> Vec<(u64, u64)>,
+) -> Result<T> {
+    let region = guest_mem.find_region(GuestAddress(0));
+    let Some(bytes) = region.and_then(|region| region.as_volatile_slice().ok()) else {
+        return call(Guest::from(&mut [][..]));
+    };
+    let start = bytes.ptr_guard_mut();
+    // SAFETY: the slice of the region says that these bytes can be read and written while the guard lives, which is past the call. They
+    // are guest memory, to which vm-memory gives nobody a reference. Whether the guest runs meanwhile is the monitor's affair, as it is
+    // with vm-memory's own copies.
+    let answer = call(unsafe { Guest::at(start.as_ptr(), bytes.len()) });
+    for (address, length) in written(&answer) {
+        let at = usize::try_from(address).map_or(bytes.len(), |address| address.min(bytes.len()));
+        let room = bytes.len() - at;
+        let count = usize::try_from(length).map_or(room, |length| length.min(room));
+        bytes.bitmap().mark_dirty(at, count);
+    }
+    answer
+}

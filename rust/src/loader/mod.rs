@@ -1,0 +1,129 @@
+// Copyright © 2020, Oracle and/or its affiliates.
+// Copyright (c) 2019 Intel Corporation. All rights reserved.
+// Copyright 2018 Amazon.com, Inc. or its affiliates. All Rights Reserved.
+// Copyright 2017 The Chromium OS Authors. All rights reserved.
+// Use of this source code is governed by a BSD-style license that can be
+// found in the NOTICE file.
+// SPDX-License-Identifier: Apache-2.0 AND BSD-3-Clause
+
+//! Kernels put into guest memory: [`Elf`], [`BzImage`], and a command line beside them.
+
+use std::fmt;
+
+use crate::lent::{self, Guest};
+use crate::{GuestAddress, GuestUsize};
+
+pub use crate::cmdline::Cmdline;
+
+pub mod bootparam;
+pub mod bzimage;
+pub mod elf;
+#[cfg(feature = "vm-memory")]
+mod guest_memory;
+mod told;
+
+pub use bzimage::*;
+pub use elf::*;
+#[cfg(feature = "vm-memory")]
+pub use guest_memory::{load_cmdline, KernelLoader};
+
+/// Why a kernel or a line was not put into guest memory.
+#[derive(Clone, Copy, Debug, PartialEq, Eq)]
+pub enum Error {
+    /// Failed to load bzimage.
+    Bzimage(bzimage::Error),
+    /// Failed to load elf image.
+    Elf(elf::Error),
+    /// Invalid command line.
+    InvalidCommandLine,
+    /// Failed writing command line to guest memory: it has more than 2^40 bytes.
+    CommandLineCopy,
+    /// Command line overflowed guest memory.
+    CommandLineOverflow,
+    /// Invalid kernel start address.
+    InvalidKernelStartAddress,
+    /// The end of a segment does not fit into 64 bits.
+    MemoryOverflow,
+}
+
+/// A specialized [`Result`](std::result::Result) type for the kernel loader.
+pub type Result<T> = std::result::Result<T, Error>;
+
+impl fmt::Display for Error {
+    fn fmt(&self, f: &mut fmt::Formatter<'_>) -> fmt::Result {
+        write!(f, "Kernel Loader: ")?;
+        match self {
+            Error::Bzimage(e) => write!(f, "failed to load bzImage kernel image: {e}"),
+            Error::Elf(e) => write!(f, "failed to load ELF kernel image: {e}"),
+            Error::InvalidCommandLine => write!(f, "invalid command line provided"),
+            Error::CommandLineCopy => write!(f, "failed writing command line to guest memory"),
+            Error::CommandLineOverflow => write!(f, "command line overflowed guest memory"),
+            Error::InvalidKernelStartAddress => write!(f, "invalid kernel start address"),
+            Error::MemoryOverflow => write!(f, "memory to load kernel image is not enough"),
+        }
+    }
+}
+
+impl std::error::Error for Error {
+    fn source(&self) -> Option<&(dyn std::error::Error + 'static)> {
+        match self {
+            Error::Bzimage(e) => Some(e),
+            Error::Elf(e) => Some(e),
+            _ => None,
+        }
+    }
+}
+
+impl From<elf::Error> for Error {
+    fn from(err: elf::Error) -> Self {
+        Error::Elf(err)
+    }
+}
+
+impl From<bzimage::Error> for Error {
+    fn from(err: bzimage::Error) -> Self {
+        Error::Bzimage(err)
+    }
+}
+
+/// Where a kernel was put, and what a monitor needs to start it.
+#[derive(Clone, Copy, Debug, Default, PartialEq)]
+pub struct KernelLoaderResult {
+    /// Where the kernel is entered: for an ELF image its entry address, moved by the offset; for a bzImage where its bytes begin.
+    pub kernel_load: GuestAddress,
+    /// The first address after the kernel.
+    pub kernel_end: GuestUsize,
+    /// The setup header of a bzImage, which a monitor puts into the zero page.
+    pub setup_header: Option<bootparam::setup_header>,
+    /// The PVH entry point of an ELF image.
+    pub pvh_boot_cap: elf::PvhBootCapability,
+}
+
+/// Writes a line and its closing zero into guest memory, which begins at guest address 0. A refusal changes nothing.
+///
+/// ```
+/// use rekusoyen::loader::{load_cmdline_into, Cmdline, Error};
+/// use rekusoyen::GuestAddress;
+///
+/// let mut guest = [0xffu8; 16];
+/// let line = Cmdline::try_from("quiet", 100)?;
+/// load_cmdline_into(&mut guest, GuestAddress(10), &line)?;
+/// assert_eq!(&guest[10..], b"quiet\0");
+///
+/// // one byte further on its zero has no room
+/// let refused = load_cmdline_into(&mut guest, GuestAddress(11), &line);
+/// assert_eq!(refused, Err(Error::CommandLineOverflow));
+/// assert_eq!(Error::CommandLineOverflow.number(), Some(32));
+/// # Ok::<(), Box<dyn std::error::Error>>(())
+/// ```
+pub fn load_cmdline_into(
+    guest: &mut [u8],
+    guest_addr: GuestAddress,
+    cmdline: &Cmdline,
+) -> Result<()> {
+    put_line(guest.into(), guest_addr, cmdline)
+}
+
+fn put_line(guest: Guest, guest_addr: GuestAddress, cmdline: &Cmdline) -> Result<()> {
+    lent::line_load(guest, guest_addr, cmdline.bytes()).map_err(told::by_line)
+}

@@ -1,0 +1,108 @@
+//! Every refusal of the proved library, and its number.
+
+/// Declares the refusals once, each with its number.
+macro_rules! refusals {
+    ($($(#[$meaning:meta])* $name:ident = $number:literal,)*) => {
+        /// A refusal of the proved library. Its number is what the C entry points answer.
+        #[derive(Clone, Copy, Debug, PartialEq, Eq, Hash)]
+        #[repr(u32)]
+        pub enum Refusal {
+            $($(#[$meaning])* $name = $number,)*
+        }
+
+        impl Refusal {
+            /// All of them, by number.
+            pub const ALL: &'static [Refusal] = &[$(Refusal::$name,)*];
+        }
+    };
+}
+
+refusals! {
+    /// The image does not begin with the four bytes of an ELF file.
+    InvalidElfMagicNumber = 1,
+    /// The image is not little-endian.
+    BigEndianElfOnLittle = 2,
+    /// A program header has another size than 56.
+    InvalidProgramHeaderSize = 3,
+    /// The program headers begin inside the ELF header.
+    InvalidProgramHeaderOffset = 4,
+    /// The entry address is below the start of high memory.
+    InvalidEntryAddress = 5,
+    /// A sum does not fit into 64 bits, or the size of a note's name or descriptor, rounded up, into 32.
+    Overflow = 6,
+    /// The image ends inside the ELF header.
+    ReadElfHeader = 7,
+    /// The image ends inside the program headers.
+    ReadProgramHeader = 8,
+    /// The address of a segment does not fit into 64 bits.
+    InvalidProgramHeaderAddress = 9,
+    /// A segment's bytes are not all in the image, or have no room in guest memory.
+    ReadKernelImage = 10,
+    /// The image ends inside a note.
+    ReadNoteHeader = 11,
+    /// The descriptor of the PVH note is shorter than an address.
+    InvalidPvhNote = 12,
+    /// The end of a segment does not fit into 64 bits.
+    MemoryOverflow = 13,
+    /// The image has no bzImage's setup header.
+    InvalidBzImage = 21,
+    /// The image is shorter than its setup sectors.
+    Underflow = 22,
+    /// The kernel's own load address is below the start of high memory.
+    InvalidKernelStartAddress = 23,
+    /// The kernel's bytes have no room in guest memory.
+    ReadBzImageCompressedKernel = 24,
+    /// The line cannot be written: it has init arguments alone, or a zero byte.
+    InvalidCommandLine = 31,
+    /// The line has no room in guest memory at its address.
+    CommandLineOverflow = 32,
+    /// A capacity is 0, above the limit, or less than a text needs.
+    InvalidCapacity = 41,
+    /// A text has a byte that is not printable ASCII.
+    InvalidAscii = 42,
+    /// A key has a space.
+    HasSpace = 43,
+    /// A key has an equals sign.
+    HasEquals = 44,
+    /// A key came without a value.
+    MissingVal = 45,
+    /// A device has size 0.
+    MmioSize = 46,
+    /// The text has no room in the line.
+    TooLarge = 47,
+    /// A value with a space is not in quotes.
+    NoQuoteSpace = 48,
+    /// A value has a quote in its middle.
+    InvalidQuote = 49,
+    /// The line has init arguments alone.
+    NoBootArgsInserted = 50,
+    /// The line has a zero byte.
+    NullTerminator = 51,
+    /// The image or guest memory has more than 2^40 bytes.
+    SliceTooLong = 60,
+    /// A list of ends is not rising, or does not end where the values do.
+    BadList = 61,
+    /// A lent output has no room, or another size than it must have.
+    NoRoom = 62,
+}
+
+impl Refusal {
+    /// The number of the refusal.
+    pub fn number(self) -> u32 {
+        self as u32
+    }
+}
+
+/// What a C entry point answered: 0 is accepted.
+pub(crate) fn answered(number: u32) -> Result<(), Refusal> {
+    if number == 0 {
+        return Ok(());
+    }
+    match Refusal::ALL
+        .iter()
+        .find(|refusal| refusal.number() == number)
+    {
+        Some(refusal) => Err(*refusal),
+        None => unreachable!("the library answers listed numbers only, and answered {number}"),
+    }
+}
