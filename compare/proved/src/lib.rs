@@ -1,6 +1,5 @@
 //! The proved code in this process.
 
-mod entry;
 mod lines;
 mod loads;
 

@@ -1,11 +1,9 @@
 //! Lines, in bytes that are lent to the proved code.
 
-use crate::{entry, outcome};
+use crate::outcome;
 use driver::answer::{Answer, CallAnswer};
 use driver::question::{Call, LineLoad};
-
-/// The size of a line's bytes: two lengths and the capacity, and two buffers.
-const SIZE: usize = 24 + 2 * 4096;
+use rekusoyen::entry::{self, LINE_SIZE};
 
 /// What an untouched byte of a lent output holds.
 const UNTOUCHED: u8 = 0xe7;
@@ -42,7 +40,7 @@ pub fn load(load: &LineLoad) -> Answer {
 }
 
 fn answer_calls(calls: &[Call]) -> (Vec<CallAnswer>, Line) {
-    let mut line = vec![0; SIZE];
+    let mut line = vec![0; LINE_SIZE];
     // SAFETY: see above.
     let made = unsafe { entry::rekusoyen_line_new(line.as_mut_ptr(), line.len(), 1) };
     assert_eq!(made, 0, "1 is a capacity");

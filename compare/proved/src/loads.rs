@@ -1,12 +1,14 @@
 //! Loads of images, and walks over notes.
 
-use crate::{entry, outcome};
+use crate::outcome;
 use driver::answer::{Answer, BzimageLoaded, ElfLoaded, NoteWalked, Pvh};
 use driver::question::{Load, Options, Walk};
+use rekusoyen::entry;
 
-/// Bit 0: an offset is given; bit 1: highmem is.
 fn flags(options: Options) -> u32 {
-    u32::from(options.offset.is_some()) + 2 * u32::from(options.highmem.is_some())
+    let offset = u32::from(options.offset.is_some()) * entry::OFFSET_GIVEN;
+    let highmem = u32::from(options.highmem.is_some()) * entry::HIGHMEM_GIVEN;
+    offset | highmem
 }
 
 fn pvh(code: u64, address: u64) -> Pvh {
@@ -66,7 +68,7 @@ pub fn note(walk: &Walk) -> Answer {
 pub fn bzimage(load: &Load) -> Answer {
     let mut guest = load.guest.clone();
     let mut out = [0u64; 2];
-    let mut header = [0u8; 123];
+    let mut header = [0u8; entry::SETUP_HEADER_SIZE];
     let options = load.options;
     // SAFETY: as above; `header` is lent to the call alone too.
     let number = unsafe {
