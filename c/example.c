@@ -1,0 +1,37 @@
+/*
+ * Loads an ELF image from standard input into guest memory and puts a command line after it, as a monitor would.
+ *
+ * usage: example < IMAGE
+ */
+#include "rekusoyen.h"
+
+#include <inttypes.h>
+#include <stdio.h>
+#include <stdlib.h>
+
+#define SIZE ((size_t)64 << 20)
+
+int main(void)
+{
+    static uint8_t line[REKUSOYEN_LINE_SIZE];
+    uint64_t told[REKUSOYEN_ELF_LOAD_OUT];
+    uint8_t *image = malloc(SIZE), *guest = calloc(SIZE, 1);
+    if (image == NULL || guest == NULL)
+        return 1;
+    size_t image_len = fread(image, 1, SIZE, stdin);
+
+    uint32_t answer = rekusoyen_elf_load(guest, SIZE, image, image_len, 0, 0, 0, told, REKUSOYEN_ELF_LOAD_OUT);
+    if (answer == REKUSOYEN_ACCEPTED)
+        answer = rekusoyen_line_new(line, sizeof line, 256);
+    if (answer == REKUSOYEN_ACCEPTED)
+        answer = rekusoyen_line_insert(line, sizeof line, (const uint8_t *)"console", 7, (const uint8_t *)"ttyS0", 5);
+    if (answer == REKUSOYEN_ACCEPTED)
+        answer = rekusoyen_line_load(guest, SIZE, told[1], line, sizeof line);
+    if (answer != REKUSOYEN_ACCEPTED) {
+        fprintf(stderr, "example: refused, %" PRIu32 "\n", answer);
+        return 1;
+    }
+    printf("load %" PRIu64 ", end %" PRIu64 ", pvh %" PRIu64 " at %" PRIu64 ", line %s\n",
+           told[0], told[1], told[2], told[3], (const char *)guest + told[1]);
+    return 0;
+}
