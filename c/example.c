@@ -1,5 +1,5 @@
 /*
- * Loads an ELF image from standard input into guest memory and puts a command line after it, as a monitor would.
+ * Loads an ELF image from standard input into guest memory, and a command line with it.
  *
  * usage: example < IMAGE
  */
@@ -9,7 +9,9 @@
 #include <stdio.h>
 #include <stdlib.h>
 
+/* The size of guest memory, above that of every image taken here, and where the line goes. */
 #define SIZE ((size_t)64 << 20)
+#define LINE_ADDRESS 0x20000
 
 int main(void)
 {
@@ -19,6 +21,10 @@ int main(void)
     if (image == NULL || guest == NULL)
         return 1;
     size_t image_len = fread(image, 1, SIZE, stdin);
+    if (!feof(stdin)) {
+        fputs("example: the image was not read to its end\n", stderr);
+        return 1;
+    }
 
     uint32_t answer = rekusoyen_elf_load(guest, SIZE, image, image_len, 0, 0, 0, told, REKUSOYEN_ELF_LOAD_OUT);
     if (answer == REKUSOYEN_ACCEPTED)
@@ -26,12 +32,12 @@ int main(void)
     if (answer == REKUSOYEN_ACCEPTED)
         answer = rekusoyen_line_insert(line, sizeof line, (const uint8_t *)"console", 7, (const uint8_t *)"ttyS0", 5);
     if (answer == REKUSOYEN_ACCEPTED)
-        answer = rekusoyen_line_load(guest, SIZE, told[1], line, sizeof line);
+        answer = rekusoyen_line_load(guest, SIZE, LINE_ADDRESS, line, sizeof line);
     if (answer != REKUSOYEN_ACCEPTED) {
         fprintf(stderr, "example: refused, %" PRIu32 "\n", answer);
         return 1;
     }
     printf("load %" PRIu64 ", end %" PRIu64 ", pvh %" PRIu64 " at %" PRIu64 ", line %s\n",
-           told[0], told[1], told[2], told[3], (const char *)guest + told[1]);
+           told[0], told[1], told[2], told[3], (const char *)guest + LINE_ADDRESS);
     return 0;
 }

@@ -3,8 +3,8 @@
  * A program includes this header and links the static library of the crate `capi`.
  *
  * Answers. Every function answers REKUSOYEN_ACCEPTED or one refusal. Its comment lists its refusals in the order in which they
- * are asked: the first whose condition holds is the answer. What a comment does not name as changed is as it was before the
- * call.
+ * are asked, without the prefix REKUSOYEN_: the first whose condition holds is the answer. What a comment does not name as
+ * changed is as it was before the call.
  *
  * What the caller owes. A slice is two arguments, a pointer and the count of its elements. The library trusts them:
  *   - The pointer is valid for all its elements: to read, and where it is not const to write. This is owed in a refused call too.
@@ -115,6 +115,7 @@ enum rekusoyen_answer {
  *
  *   guest    guest memory, its first byte at guest address 0
  *   image    the whole file
+ *   flags    which of offset and highmem are given
  *   offset   where given, it is added to every segment's p_paddr and to the load address
  *   highmem  where given, the image's e_entry, before the offset is added, must not lie below it
  *   out      REKUSOYEN_ELF_LOAD_OUT places: the load address (e_entry, plus the offset); the kernel's end (the greatest
@@ -122,9 +123,9 @@ enum rekusoyen_answer {
  *            and the PVH address or 0
  *
  * Program headers are taken in file order. One of type 1 (loadable) with p_filesz above 0 has its p_filesz bytes copied to
- * its address, p_paddr plus the offset; guest memory from there to p_memsz is not cleared. One of type 4 (notes) sets PVH anew:
- * to ignored where an offset is given, else to what rekusoyen_elf_note says of its p_filesz bytes at p_offset. All others are
- * skipped. Without a note header PVH is ignored.
+ * its address, p_paddr plus the offset; guest memory after them, up to p_memsz, is not cleared. One of type 4 (notes) sets PVH
+ * anew: to ignored where an offset is given, else to what rekusoyen_elf_note says of its p_filesz bytes at p_offset. All others
+ * are skipped. Without a note header PVH is ignored.
  *
  * Refusals:
  *   NO_ROOM                         out_len is not REKUSOYEN_ELF_LOAD_OUT
@@ -182,6 +183,7 @@ uint32_t rekusoyen_elf_note(
  *
  *   guest    guest memory, its first byte at guest address 0
  *   image    the whole file
+ *   flags    which of offset and highmem are given
  *   offset   where given, it is the load address, in place of the image's code32_start
  *   highmem  where given, the image's code32_start must not lie below it, whatever the offset is
  *   out      REKUSOYEN_BZIMAGE_LOAD_OUT places: the load address, and the kernel's end (the load address + the kernel's size)
@@ -217,12 +219,12 @@ uint32_t rekusoyen_bzimage_load(
  * init text, the capacity), then the boot text in REKUSOYEN_LINE_LIMIT bytes and the init text in as many, each followed by
  * zeros.
  *
- * The counted size of a line is boot text + 1, and where there is init text + 4 + init text: what the written line takes with
- * its zero.
+ * The counted size of a line is the length of its boot text + 1, and where there is init text 4 + its length more: what the
+ * written line takes with its zero.
  *
  * Bytes hold a line where both lengths are at most REKUSOYEN_LINE_LIMIT, the capacity is 1 to REKUSOYEN_LINE_LIMIT, the counted
- * size is at most the capacity, and every byte past each text is 0. Every call but a making tests this, whoever wrote the
- * bytes; what an accepted call leaves holds a line.
+ * size is at most the capacity, and every byte past each text is 0; the texts may have any bytes. Every call but a making tests
+ * this, whoever wrote the bytes; what an accepted call leaves holds a line.
  *
  * Every refused call leaves everything that it was lent as it was. An accepted call that is lent a line to change leaves all
  * its REKUSOYEN_LINE_SIZE bytes fixed: the texts that its comment names, zeros past them, and the capacity of the making.
@@ -339,6 +341,9 @@ uint32_t rekusoyen_line_insert_str(uint8_t *line, size_t line_len, const uint8_t
 /*
  * The same for the init text: the slug goes after it, with a space between where there is init text.
  *
+ *   line  a line
+ *   slug  any text
+ *
  * Refusals: those of rekusoyen_line_insert_str, in its order. Where there is no init text, an empty slug too asks for 4 bytes
  * of room, as the separator takes.
  *
@@ -351,11 +356,12 @@ uint32_t rekusoyen_line_insert_init_args(uint8_t *line, size_t line_len, const u
  * boot text. SIZE is told in G, M or K, by the largest that divides it, else in bytes. ADDRESS is hexadecimal, in small
  * letters; all else is decimal. This takes at most 80 bytes.
  *
- *   line             a line
- *   size             of the device's memory, in bytes
- *   address          where that begins
- *   irq              its interrupt
- *   has_id, id       0 for a device without an ID; any other has_id: id is its ID
+ *   line     a line
+ *   size     of the device's memory, in bytes
+ *   address  where that begins
+ *   irq      its interrupt
+ *   has_id   0 for a device without an ID, any other number for one with an ID
+ *   id       its ID; not looked at where it has none
  *
  * Refusals:
  *   NO_ROOM           line_len is not REKUSOYEN_LINE_SIZE
@@ -373,7 +379,7 @@ uint32_t rekusoyen_line_add_virtio_mmio_device(
  * Writes the line as a C string: the boot text, where there is init text space-dash-dash-space and the init text, and a zero.
  *
  *   line   a line
- *   out    for the text and its zero; the counted size is enough
+ *   out    for the text and its zero; as many bytes as the line's capacity are always enough
  *   count  REKUSOYEN_LINE_AS_CSTRING_COUNT place: how many bytes were written, the zero counted
  *
  * Refusals:

@@ -66,10 +66,17 @@ static void check_load(const struct load *load, const struct image *whole, size_
     CHECK_LEFT(load->what, &header, returned.bytes + SETUP_HEADER);
 }
 
+/* The next answer, after a repair. */
+static void check_next(struct load *load, const struct image *image, uint32_t answer)
+{
+    load->answer = answer;
+    check_load(load, image, REKUSOYEN_BZIMAGE_LOAD_OUT, REKUSOYEN_SETUP_HEADER_SIZE);
+}
+
 /* Every defect at once, and each repaired in turn: the refusals come in the order in which they are asked. */
 static void check_order(void)
 {
-    struct load load = {"every defect", 0, KERNEL, HIGHMEM, 0, 17, 21, REKUSOYEN_NO_ROOM, {16, 22}};
+    struct load load = {"every defect, repaired in turn", 0, KERNEL, HIGHMEM, 0, 17, 21, REKUSOYEN_NO_ROOM, {16, 22}};
     struct image whole = bz_image(0, START, KERNEL, strlen(KERNEL)), image = {{0}, 0};
     const size_t out = REKUSOYEN_BZIMAGE_LOAD_OUT, header = REKUSOYEN_SETUP_HEADER_SIZE;
     check_load(&load, &image, out - 1, header);
@@ -78,28 +85,25 @@ static void check_order(void)
     check_load(&load, &image, out, header - 1);
     check_load(&load, &image, out, header + 1);
     check_load(&load, &image, out, 0);
-
-#define NEXT(refusal) (load.answer = REKUSOYEN_##refusal, load.what = #refusal, check_load(&load, &image, out, header))
-    NEXT(INVALID_BZ_IMAGE);
+    check_next(&load, &image, REKUSOYEN_INVALID_BZ_IMAGE);
     image = whole;
     image.size = 5 * 512 - 1;
     put_number(&image, HEADER_MAGIC, 1, 'h');
-    NEXT(INVALID_BZ_IMAGE);
+    check_next(&load, &image, REKUSOYEN_INVALID_BZ_IMAGE);
     put_number(&image, HEADER_MAGIC, 1, 'H');
     put_number(&image, VERSION, 2, 0x1ff);
-    NEXT(INVALID_BZ_IMAGE);
+    check_next(&load, &image, REKUSOYEN_INVALID_BZ_IMAGE);
     put_number(&image, VERSION, 2, 0x200);
     put_number(&image, LOADFLAGS, 1, 0xfe);
-    NEXT(INVALID_BZ_IMAGE);
+    check_next(&load, &image, REKUSOYEN_INVALID_BZ_IMAGE);
     put_number(&image, LOADFLAGS, 1, 0xff);
-    NEXT(UNDERFLOW);
+    check_next(&load, &image, REKUSOYEN_UNDERFLOW);
     image.size = whole.size;
-    NEXT(INVALID_KERNEL_START_ADDRESS);
+    check_next(&load, &image, REKUSOYEN_INVALID_KERNEL_START_ADDRESS);
     load.highmem = 16;
-    NEXT(READ_BZ_IMAGE_COMPRESSED_KERNEL);
+    check_next(&load, &image, REKUSOYEN_READ_BZ_IMAGE_COMPRESSED_KERNEL);
     load.guest_len = 22;
-    NEXT(ACCEPTED);
-#undef NEXT
+    check_next(&load, &image, REKUSOYEN_ACCEPTED);
 }
 
 void test_bzimage(void)

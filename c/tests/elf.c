@@ -15,9 +15,11 @@ struct load {
     size_t guest_len;
     uint32_t answer;
     uint64_t values[REKUSOYEN_ELF_LOAD_OUT];
-    /* where loadable bytes arrive in guest memory, in order: bytes of the body, from a place on */
+    /* what is written to guest memory, in order */
     struct {
-        size_t address, place, size;
+        size_t address;
+        const char *bytes;
+        size_t size;
     } written[3];
 };
 
@@ -42,19 +44,19 @@ static struct image body(void)
 
 #define LOADS_16 {LOADABLE, TEXT, 16, 3, 8}
 #define LOADS_40 {LOADABLE, TEXT + 4, 40, 5, 5}
-#define ARRIVES_16 {16, TEXT, 3}
-#define ARRIVES_40 {40, TEXT + 4, 5}
+#define ARRIVES_16 {16, "six", 3}
+#define ARRIVES_40 {40, "een b", 5}
 
 /* e_entry is 16 in all of them. */
 static const struct load loads[] = {
     {"one segment", {LOADS_16}, 1, 0, 0, 0, 32, REKUSOYEN_ACCEPTED, {16, 24, REKUSOYEN_PVH_IGNORED, 0}, {ARRIVES_16}},
     {"the kernel's end past guest memory", {LOADS_16}, 1, 0, 0, 0, 19, REKUSOYEN_ACCEPTED, {16, 24, 0, 0}, {ARRIVES_16}},
-    {"an offset", {LOADS_16}, 1, REKUSOYEN_OFFSET_GIVEN, 4, 0, 32, REKUSOYEN_ACCEPTED, {20, 28, 0, 0}, {{20, TEXT, 3}}},
+    {"an offset", {LOADS_16}, 1, REKUSOYEN_OFFSET_GIVEN, 4, 0, 32, REKUSOYEN_ACCEPTED, {20, 28, 0, 0}, {{20, "six", 3}}},
     {"addresses without their flag", {LOADS_16}, 1, ~3u, TOP, TOP, 32, REKUSOYEN_ACCEPTED, {16, 24, 0, 0}, {ARRIVES_16}},
     {"highmem at the entry", {LOADS_16}, 1, REKUSOYEN_HIGHMEM_GIVEN, 0, 16, 32, REKUSOYEN_ACCEPTED, {16, 24, 0, 0}, {ARRIVES_16}},
     {"no program headers", {{0}}, 0, 0, 0, 0, 0, REKUSOYEN_ACCEPTED, {16, 0, 0, 0}, {{0}}},
     {"a later segment over an earlier", {LOADS_16, {LOADABLE, TEXT + 8, 18, 2, 2}}, 2, 0, 0, 0, 32,
-     REKUSOYEN_ACCEPTED, {16, 24, 0, 0}, {ARRIVES_16, {18, TEXT + 8, 2}}},
+     REKUSOYEN_ACCEPTED, {16, 24, 0, 0}, {ARRIVES_16, {18, "by", 2}}},
     {"a segment without file bytes, and one that is not loadable",
      {{LOADABLE, TEXT, TOP, 0, TOP}, {DYNAMIC, TEXT, 0, 8, 99}, LOADS_16}, 3, 0, 0, 0, 32,
      REKUSOYEN_ACCEPTED, {16, 24, 0, 0}, {ARRIVES_16}},
@@ -67,7 +69,7 @@ static const struct load loads[] = {
 
     /* the segments before the refused program header are written, those after it are not */
     {"an address that does not fit", {LOADS_16, {LOADABLE, TEXT, TOP - 3, 3, 3}, LOADS_40}, 3, REKUSOYEN_OFFSET_GIVEN, 4, 0, 64,
-     REKUSOYEN_INVALID_PROGRAM_HEADER_ADDRESS, {0}, {{20, TEXT, 3}}},
+     REKUSOYEN_INVALID_PROGRAM_HEADER_ADDRESS, {0}, {{20, "six", 3}}},
     {"bytes past the image", {LOADS_16, {LOADABLE, CUT_NOTE, 0, 12, 12}, LOADS_40}, 3, 0, 0, 0, 64,
      REKUSOYEN_READ_KERNEL_IMAGE, {0}, {ARRIVES_16}},
     {"a size that would wrap into the image", {LOADS_16, {LOADABLE, TEXT, 0, TOP - 200, 12}, LOADS_40}, 3, 0, 0, 0, 64,
@@ -76,8 +78,9 @@ static const struct load loads[] = {
      REKUSOYEN_READ_KERNEL_IMAGE, {0}, {ARRIVES_16}},
     {"an address that would wrap into guest memory", {LOADS_16, {LOADABLE, TEXT, TOP, 3, 3}, LOADS_40}, 3, 0, 0, 0, 64,
      REKUSOYEN_READ_KERNEL_IMAGE, {0}, {ARRIVES_16}},
-    {"a memory size that does not fit: its own bytes are written too", {LOADS_16, {LOADABLE, TEXT + 8, 32, 4, TOP - 31}, LOADS_40}, 3,
-     0, 0, 0, 64, REKUSOYEN_MEMORY_OVERFLOW, {0}, {ARRIVES_16, {32, TEXT + 8, 4}}},
+    {"a memory size that does not fit: its own bytes are written too",
+     {LOADS_16, {LOADABLE, TEXT + 8, 32, 4, TOP - 31}, LOADS_40}, 3, 0, 0, 0, 64,
+     REKUSOYEN_MEMORY_OVERFLOW, {0}, {ARRIVES_16, {32, "byte", 4}}},
     {"a note past the image", {LOADS_16, {NOTES, CUT_NOTE, 0, 1, 0}, LOADS_40}, 3, 0, 0, 0, 64,
      REKUSOYEN_READ_NOTE_HEADER, {0}, {ARRIVES_16}},
     {"a note of a huge size", {LOADS_16, {NOTES, HUGE_NOTE, 0, 12, 0}, LOADS_40}, 3, 0, 0, 0, 64,
@@ -88,91 +91,80 @@ static const struct load loads[] = {
      REKUSOYEN_OFFSET_GIVEN, 0, 0, 64, REKUSOYEN_ACCEPTED, {16, 45, REKUSOYEN_PVH_IGNORED, 0}, {ARRIVES_16, ARRIVES_40}},
 };
 
-/* What is lent to one call, besides its numbers. */
-struct lent_load {
-    struct lent guest, image, out;
-};
-
-static uint32_t call(const struct load *load, const struct image *image, size_t out_len, struct lent_load *lent)
+static void check_load(const struct load *load, const struct image *whole, size_t out_len)
 {
-    lent->guest = lend_filled(load->guest_len);
-    lent->image = lend_bytes(image->bytes, image->size);
-    lent->out = lend_list(out_len);
-    return rekusoyen_elf_load(
-        lent->guest.bytes, lent->guest.size, lent->image.bytes, lent->image.size,
-        load->flags, load->offset, load->highmem, numbers_of(&lent->out), out_len);
+    struct lent guest = lend_filled(load->guest_len), image = lend_bytes(whole->bytes, whole->size), out = lend_list(out_len);
+    uint32_t answer = rekusoyen_elf_load(
+        guest.bytes, guest.size, image.bytes, image.size, load->flags, load->offset, load->highmem, numbers_of(&out), out_len);
+    uint8_t memory[64];
+    memcpy(memory, guest.before, load->guest_len);
+    for (size_t i = 0; i < 3 && load->written[i].size != 0; i++)
+        memcpy(memory + load->written[i].address, load->written[i].bytes, load->written[i].size);
+    CHECK_ANSWER(load->what, answer, load->answer);
+    CHECK_LEFT(load->what, &guest, memory);
+    CHECK_KEPT(load->what, &image);
+    CHECK_LEFT(load->what, &out, load->answer == REKUSOYEN_ACCEPTED ? (const void *)load->values : out.before);
 }
 
-static void check_load(const struct load *load, const struct image *image, size_t out_len, const uint8_t *text)
+/* The next answer, after a repair. */
+static void check_next(struct load *load, const struct image *image, uint32_t answer)
 {
-    struct lent_load lent;
-    uint32_t answer = call(load, image, out_len, &lent);
-    uint8_t guest[64];
-    memcpy(guest, lent.guest.before, load->guest_len);
-    for (size_t i = 0; i < 3; i++)
-        memcpy(guest + load->written[i].address, text + load->written[i].place, load->written[i].size);
-    CHECK_ANSWER(load->what, answer, load->answer);
-    CHECK_LEFT(load->what, &lent.guest, guest);
-    CHECK_KEPT(load->what, &lent.image);
-    CHECK_LEFT(load->what, &lent.out, load->answer == REKUSOYEN_ACCEPTED ? (const void *)load->values : lent.out.before);
+    load->answer = answer;
+    check_load(load, image, REKUSOYEN_ELF_LOAD_OUT);
 }
 
 /* Every defect at once, and each repaired in turn: the refusals come in the order in which they are asked. */
 static void check_order(void)
 {
-    struct load load = {"every defect", {{0}}, 0, 3, TOP, 17, 18, REKUSOYEN_NO_ROOM, {0}, {{0}}};
+    struct load load = {"every defect, repaired in turn", {{0}}, 0, 3, TOP, 17, 18, REKUSOYEN_NO_ROOM, {16, TOP}, {{0}}};
     struct image whole = small_elf(), image = {{0}, ELF_HEADER_SIZE - 1};
-    const uint8_t *text = whole.bytes + ELF_HEADER_SIZE + PROGRAM_HEADER_SIZE;
     const size_t header = ELF_HEADER_SIZE;
     put_number(&image, E_ENTRY, 8, 16);
     put_number(&image, E_PHNUM, 2, 1);
     for (size_t out_len = 0; out_len <= 5; out_len++)
         if (out_len != REKUSOYEN_ELF_LOAD_OUT)
-            check_load(&load, &image, out_len, text);
-
-#define NEXT(refusal) (load.answer = REKUSOYEN_##refusal, load.what = #refusal, check_load(&load, &image, REKUSOYEN_ELF_LOAD_OUT, text))
-    NEXT(READ_ELF_HEADER);
+            check_load(&load, &image, out_len);
+    check_next(&load, &image, REKUSOYEN_READ_ELF_HEADER);
     image.size = ELF_HEADER_SIZE;
-    NEXT(INVALID_ELF_MAGIC_NUMBER);
+    check_next(&load, &image, REKUSOYEN_INVALID_ELF_MAGIC_NUMBER);
     memcpy(image.bytes, whole.bytes, 4);
-    NEXT(BIG_ENDIAN_ELF_ON_LITTLE);
+    check_next(&load, &image, REKUSOYEN_BIG_ENDIAN_ELF_ON_LITTLE);
     put_number(&image, EI_DATA, 1, 1);
-    NEXT(INVALID_PROGRAM_HEADER_SIZE);
+    check_next(&load, &image, REKUSOYEN_INVALID_PROGRAM_HEADER_SIZE);
     put_number(&image, E_PHENTSIZE, 2, PROGRAM_HEADER_SIZE);
     put_number(&image, E_PHOFF, 8, ELF_HEADER_SIZE - 1);
-    NEXT(INVALID_PROGRAM_HEADER_OFFSET);
+    check_next(&load, &image, REKUSOYEN_INVALID_PROGRAM_HEADER_OFFSET);
     put_number(&image, E_PHOFF, 8, ELF_HEADER_SIZE);
-    NEXT(INVALID_ENTRY_ADDRESS);
+    check_next(&load, &image, REKUSOYEN_INVALID_ENTRY_ADDRESS);
     load.highmem = 16;
-    NEXT(OVERFLOW);
+    check_next(&load, &image, REKUSOYEN_OVERFLOW);
     load.offset = TOP - 16;
-    NEXT(READ_PROGRAM_HEADER);
+    check_next(&load, &image, REKUSOYEN_READ_PROGRAM_HEADER);
     image.size = whole.size - 1;
     memcpy(image.bytes + header, whole.bytes + header, whole.size - header);
     put_number(&image, header + P_PADDR, 8, 17);
     put_number(&image, header + P_MEMSZ, 8, TOP);
-    NEXT(INVALID_PROGRAM_HEADER_ADDRESS);
+    check_next(&load, &image, REKUSOYEN_INVALID_PROGRAM_HEADER_ADDRESS);
     load.offset = 0;
-    NEXT(READ_KERNEL_IMAGE);
+    check_next(&load, &image, REKUSOYEN_READ_KERNEL_IMAGE);
     image.size = whole.size;
-    NEXT(READ_KERNEL_IMAGE);
+    check_next(&load, &image, REKUSOYEN_READ_KERNEL_IMAGE);
     load.guest_len = 20;
     load.written[0].address = 17;
+    load.written[0].bytes = "\xaa\xbb\xcc";
     load.written[0].size = 3;
-    NEXT(MEMORY_OVERFLOW);
+    check_next(&load, &image, REKUSOYEN_MEMORY_OVERFLOW);
     put_number(&image, header + P_MEMSZ, 8, TOP - 17);
-    load.values[0] = 16;
-    load.values[1] = TOP;
-    NEXT(ACCEPTED);
-#undef NEXT
+    check_next(&load, &image, REKUSOYEN_ACCEPTED);
 }
 
 void test_elf(void)
 {
-    struct image text = body();
+    const struct image text = body();
+    CHECK(text.size == CUT_NOTE + 11, "the body ends at %zu", text.size);
     for (size_t i = 0; i < sizeof loads / sizeof loads[0]; i++) {
         struct image image = elf_image(16, loads[i].headers, loads[i].count, text.bytes, text.size);
-        check_load(&loads[i], &image, REKUSOYEN_ELF_LOAD_OUT, text.bytes);
+        check_load(&loads[i], &image, REKUSOYEN_ELF_LOAD_OUT);
     }
     check_order();
 }

@@ -26,7 +26,8 @@ static void check_loads(void)
         "out", rekusoyen_bzimage_load(guest.bytes, 32, bzimage.bytes, bzimage.size, 0, 0, 0, NULL, 0, header.bytes, header.size),
         REKUSOYEN_NO_ROOM);
     CHECK_ANSWER(
-        "header", rekusoyen_bzimage_load(guest.bytes, 32, bzimage.bytes, bzimage.size, 0, 0, 0, out, 2, NULL, 0), REKUSOYEN_NO_ROOM);
+        "header", rekusoyen_bzimage_load(guest.bytes, 32, bzimage.bytes, bzimage.size, 0, 0, 0, out, 2, NULL, 0),
+        REKUSOYEN_NO_ROOM);
     CHECK_KEPT("refused", &guest);
     CHECK_KEPT("refused", &numbers);
     CHECK_KEPT("refused", &header);

@@ -42,10 +42,11 @@ enum { NOTE_HEADER_SIZE = 12, PVH_NOTE_TYPE = 18 };
 
 void append_note(struct image *image, uint32_t type, const char *name, uint32_t name_size, const char *text, uint32_t text_size);
 
-/* Fields of the setup header, and where it begins. */
-enum { SETUP_HEADER = 0x1f1, SETUP_SECTS = 0x1f1, HEADER_MAGIC = 0x202, VERSION = 0x206, LOADFLAGS = 0x211, CODE32_START = 0x214 };
+/* Where the setup header begins, and fields of it. */
+enum { SETUP_HEADER = 0x1f1 };
+enum { SETUP_SECTS = 0x1f1, HEADER_MAGIC = 0x202, VERSION = 0x206, LOADFLAGS = 0x211, CODE32_START = 0x214 };
 
-/* A bzImage of protocol 2.15, loaded high: a setup of so many sectors, in which every other byte holds something, and the kernel. */
+/* A bzImage of protocol 2.15, loaded high: a setup of so many sectors, all whose bytes hold something, and the kernel. */
 struct image bz_image(uint8_t sectors, uint32_t start, const void *kernel, size_t size);
 
 #endif

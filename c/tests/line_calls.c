@@ -93,7 +93,8 @@ static const struct row rows[] = {
 
 #define NAME "virtio_mmio.device="
     {"a device", EMPTY, EMPTY, 99, DEVICE(4096, 4096, 5, 1, 42), REKUSOYEN_ACCEPTED, T(NAME "4K@0x1000:5:42"), EMPTY},
-    {"a device without an ID", T("a"), EMPTY, 99, DEVICE(3 << 20, 0xabc, 0, 0, 7), REKUSOYEN_ACCEPTED, T("a " NAME "3M@0xabc:0"), EMPTY},
+    {"a device without an ID", T("a"), EMPTY, 99, DEVICE(3 << 20, 0xabc, 0, 0, 7),
+     REKUSOYEN_ACCEPTED, T("a " NAME "3M@0xabc:0"), EMPTY},
     {"a device of G", EMPTY, EMPTY, 99, DEVICE(1 << 30, 0, 5, 9, 0), REKUSOYEN_ACCEPTED, T(NAME "1G@0x0:5:0"), EMPTY},
     {"the longest device", EMPTY, EMPTY, 81, DEVICE(UINT64_MAX, UINT64_MAX, UINT32_MAX, UINT32_MAX, UINT32_MAX),
      REKUSOYEN_ACCEPTED, T(NAME "18446744073709551615@0xffffffffffffffff:4294967295:4294967295"), EMPTY},
@@ -101,8 +102,9 @@ static const struct row rows[] = {
     {"a device of size 0", EMPTY, EMPTY, 1, DEVICE(0, 4096, 5, 1, 42), REKUSOYEN_MMIO_SIZE, EMPTY, EMPTY},
 };
 
-/* Makes a call on a line that holds these bytes. */
-static void check_call(const char *what, const struct line *before, const struct call *call, uint32_t answer, const struct line *after)
+/* Makes a call on bytes that hold `before`. */
+static void check_call(
+    const char *what, const struct line *before, const struct call *call, uint32_t answer, const struct line *after)
 {
     struct lent line = lend_bytes(before->bytes, sizeof before->bytes);
     CHECK_ANSWER(what, make_call(what, call, &line), answer);

@@ -1,4 +1,4 @@
-/* Runs every test. With the word `small-elf` it writes the smallest ELF image to standard output instead, for the example to load. */
+/* Runs every test. With the word `small-elf` it writes a small ELF image to standard output instead, for the example. */
 #include "check.h"
 #include "images.h"
 #include "tests.h"

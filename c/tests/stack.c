@@ -141,9 +141,12 @@ void test_stack(void)
                         pthread_attr_setstack(&attributes, stack, STACK_SIZE) == 0 &&
                         pthread_create(&thread, &attributes, measure, stack) == 0 && pthread_join(thread, NULL) == 0;
     CHECK(started, "a thread with a stack of its own ran");
+    size_t most = 0;
     for (size_t i = 0; started && i < CALLS; i++) {
         CHECK_ANSWER(calls[i].name, answers[i], REKUSOYEN_ACCEPTED);
         CHECK(used[i] <= calls[i].limit, "%s used %zu bytes of stack", calls[i].name, used[i]);
+        most = used[i] > most ? used[i] : most;
     }
+    printf("c: a call used up to %zu bytes of stack\n", most);
     free(stack);
 }
