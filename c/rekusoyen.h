@@ -1,6 +1,6 @@
 /*
  * The proved kernel loader for C and C++: ELF images with their PVH note, bzImages, and the kernel command line.
- * A program includes this header and links the static library of the crate `capi`.
+ * A program includes this header and links the static library of the crate `capi`, which `rt staticlib capi` makes.
  *
  * Answers. Every function answers REKUSOYEN_ACCEPTED or one refusal. Its comment lists its refusals in the order in which they
  * are asked, without the prefix REKUSOYEN_: the first whose condition holds is the answer. What a comment does not name as
@@ -11,7 +11,7 @@
  *   - Where the length is 0 nothing is read or written through the pointer, and any pointer is fine, NULL too. NULL with another
  *     length is never fine.
  *   - What is not const overlaps no other argument. Const arguments may overlap each other.
- *   - During the call nothing else writes to an argument, and nothing else reads one that is not const.
+ *   - During the call nothing else, the guest included, writes to an argument, nor reads one that is not const.
  *   - A list of uint64_t or size_t is aligned as its element type asks. Bytes need no alignment.
  * Everything else is tested: every number, every length and every byte gets an answer.
  *
@@ -107,7 +107,7 @@ enum rekusoyen_answer {
 #define REKUSOYEN_BZIMAGE_LOAD_OUT 2
 #define REKUSOYEN_SETUP_HEADER_SIZE 123
 
-/* The greatest length of an image and of guest memory. */
+/* The greatest length of an image and of guest memory. Texts have none. */
 #define REKUSOYEN_LONGEST_SLICE ((uint64_t)1 << 40)
 
 /*

@@ -4,8 +4,6 @@
 #include "lines.h"
 #include "tests.h"
 
-#include <string.h>
-
 static void check_loads(void)
 {
     const struct image elf = small_elf(), bzimage = bz_image(1, 16, "k", 1);
