@@ -1,0 +1,43 @@
+/*
+ * Loads an ELF image from standard input into guest memory, and a command line with it.
+ *
+ * usage: example < IMAGE
+ */
+#include "rekusoyen.h"
+
+#include <inttypes.h>
+#include <stdio.h>
+#include <stdlib.h>
+
+/* The size of guest memory, above that of every image taken here, and where the line goes. */
+#define SIZE ((size_t)64 << 20)
+#define LINE_ADDRESS 0x20000
+
+int main(void)
+{
+    static uint8_t line[REKUSOYEN_LINE_SIZE];
+    uint64_t told[REKUSOYEN_ELF_LOAD_OUT];
+    uint8_t *image = malloc(SIZE), *guest = calloc(SIZE, 1);
+    if (image == NULL || guest == NULL)
+        return 1;
+    size_t image_len = fread(image, 1, SIZE, stdin);
+    if (!feof(stdin)) {
+        fputs("example: the image was not read to its end\n", stderr);
+        return 1;
+    }
+
+    uint32_t answer = rekusoyen_elf_load(guest, SIZE, image, image_len, 0, 0, 0, told, REKUSOYEN_ELF_LOAD_OUT);
+    if (answer == REKUSOYEN_ACCEPTED)
+        answer = rekusoyen_line_new(line, sizeof line, 256);
+    if (answer == REKUSOYEN_ACCEPTED)
+        answer = rekusoyen_line_insert(line, sizeof line, (const uint8_t *)"console", 7, (const uint8_t *)"ttyS0", 5);
+    if (answer == REKUSOYEN_ACCEPTED)
+        answer = rekusoyen_line_load(guest, SIZE, LINE_ADDRESS, line, sizeof line);
+    if (answer != REKUSOYEN_ACCEPTED) {
+        fprintf(stderr, "example: refused, %" PRIu32 "\n", answer);
+        return 1;
+    }
+    printf("load %" PRIu64 ", end %" PRIu64 ", pvh %" PRIu64 " at %" PRIu64 ", line %s\n",
+           told[0], told[1], told[2], told[3], (const char *)guest + LINE_ADDRESS);
+    return 0;
+}

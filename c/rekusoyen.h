@@ -1,0 +1,444 @@
+/*
+ * The proved kernel loader for C and C++: ELF images with their PVH note, bzImages, and the kernel command line.
+ * A program includes this header and links the static library of the crate `capi`, which `rt staticlib capi` makes.
+ *
+ * Answers. Every function answers REKUSOYEN_ACCEPTED or one refusal. Its comment lists its refusals in the order in which they
+ * are asked, without the prefix REKUSOYEN_: the first whose condition holds is the answer. What a comment does not name as
+ * changed is as it was before the call.
+ *
+ * What the caller owes. A slice is two arguments, a pointer and the count of its elements. The library trusts them:
+ *   - The pointer is valid for all its elements: to read, and where it is not const to write. This is owed in a refused call too.
+ *   - Where the length is 0 nothing is read or written through the pointer, and any pointer is fine, NULL too. NULL with another
+ *     length is never fine.
+ *   - What is not const overlaps no other argument. Const arguments may overlap each other.
+ *   - During the call nothing else, the guest included, writes to an argument, nor reads one that is not const.
+ *   - A list of uint64_t or size_t is aligned as its element type asks. Bytes need no alignment.
+ * Everything else is tested: every number, every length and every byte gets an answer.
+ *
+ * What the library does beside. It keeps nothing between calls, has no global state, allocates nothing, makes no system call,
+ * and calls nothing but memcpy and memset, which the program provides. Calls may run on many threads at once, each on its own
+ * buffers; const arguments may be shared.
+ */
+#ifndef REKUSOYEN_H
+#define REKUSOYEN_H
+
+#include <stddef.h>
+#include <stdint.h>
+
+#if SIZE_MAX != UINT64_MAX
+#error "the library is made for processors whose size_t has 64 bits"
+#endif
+
+#ifdef __cplusplus
+extern "C" {
+#endif
+
+/* What a function answers. */
+enum rekusoyen_answer {
+    REKUSOYEN_ACCEPTED = 0,
+
+    /* ELF */
+    REKUSOYEN_INVALID_ELF_MAGIC_NUMBER = 1,        /* the image does not begin with 7F, then ELF */
+    REKUSOYEN_BIG_ENDIAN_ELF_ON_LITTLE = 2,        /* byte 5 is not 1: the numbers are not little-endian */
+    REKUSOYEN_INVALID_PROGRAM_HEADER_SIZE = 3,     /* e_phentsize is not 56 */
+    REKUSOYEN_INVALID_PROGRAM_HEADER_OFFSET = 4,   /* e_phoff is below 64 */
+    REKUSOYEN_INVALID_ENTRY_ADDRESS = 5,           /* e_entry is below the start of high memory */
+    REKUSOYEN_OVERFLOW = 6,                        /* offset + e_entry is 2^64 or more, or a note's size is above FFFFFFFC hex */
+    REKUSOYEN_READ_ELF_HEADER = 7,                 /* the image has fewer than 64 bytes */
+    REKUSOYEN_READ_PROGRAM_HEADER = 8,             /* the program headers pass the image */
+    REKUSOYEN_INVALID_PROGRAM_HEADER_ADDRESS = 9,  /* offset + p_paddr is 2^64 or more */
+    REKUSOYEN_READ_KERNEL_IMAGE = 10,              /* a segment's bytes pass the image or guest memory */
+    REKUSOYEN_READ_NOTE_HEADER = 11,               /* a note passes the image */
+    REKUSOYEN_INVALID_PVH_NOTE = 12,               /* the PVH note's descriptor has fewer than 4 bytes */
+    REKUSOYEN_MEMORY_OVERFLOW = 13,                /* a segment's address + p_memsz is 2^64 or more */
+
+    /* bzImage */
+    REKUSOYEN_INVALID_BZ_IMAGE = 21,               /* not a bzImage of protocol 2.00 or later that is loaded high */
+    REKUSOYEN_UNDERFLOW = 22,                      /* the image ends before its setup does */
+    REKUSOYEN_INVALID_KERNEL_START_ADDRESS = 23,   /* code32_start is below the start of high memory */
+    REKUSOYEN_READ_BZ_IMAGE_COMPRESSED_KERNEL = 24, /* the kernel passes guest memory */
+
+    /* a line put into guest memory */
+    REKUSOYEN_INVALID_COMMAND_LINE = 31,           /* writing it is refused for its text */
+    REKUSOYEN_COMMAND_LINE_OVERFLOW = 32,          /* it and its zero pass guest memory */
+
+    /* a line built */
+    REKUSOYEN_INVALID_CAPACITY = 41,               /* capacity not 1 to 4096, text too long for it, or bytes that hold no line */
+    REKUSOYEN_INVALID_ASCII = 42,                  /* a byte outside 32 to 126 */
+    REKUSOYEN_HAS_SPACE = 43,                      /* a space in a key */
+    REKUSOYEN_HAS_EQUALS = 44,                     /* an equals sign in a key */
+    REKUSOYEN_MISSING_VAL = 45,                    /* a list without values */
+    REKUSOYEN_MMIO_SIZE = 46,                      /* a device of size 0 */
+    REKUSOYEN_TOO_LARGE = 47,                      /* no room left within the capacity */
+    REKUSOYEN_NO_QUOTE_SPACE = 48,                 /* a space in a value that is not quoted */
+    REKUSOYEN_INVALID_QUOTE = 49,                  /* a quote strictly inside a value */
+
+    /* a line written */
+    REKUSOYEN_NO_BOOT_ARGS_INSERTED = 50,          /* init text without boot text */
+    REKUSOYEN_NULL_TERMINATOR = 51,                /* a zero byte in the text */
+
+    /* limits of what is lent */
+    REKUSOYEN_SLICE_TOO_LONG = 60,                 /* an image or guest memory of more than 2^40 bytes */
+    REKUSOYEN_BAD_LIST = 61,                       /* ends that fall, or of which the last is not the length of the values */
+    REKUSOYEN_NO_ROOM = 62                         /* a buffer that has not its one size, or an output too short for the line */
+};
+
+/*
+ * The stack that a call uses at the most, beside what memcpy and memset themselves use: a load of an image or a note walk, and
+ * a call on a line. Measured on x86-64 and on Arm, they use less than 512 bytes and less than 62,000.
+ */
+#define REKUSOYEN_LOAD_STACK_SIZE ((size_t)1024)
+#define REKUSOYEN_LINE_STACK_SIZE ((size_t)65536)
+
+/* ---- loads */
+
+/* Flags of a load: which of its two addresses are given. An address whose bit is 0 is not looked at, nor are the other bits. */
+#define REKUSOYEN_OFFSET_GIVEN 1u
+#define REKUSOYEN_HIGHMEM_GIVEN 2u
+
+/* PVH, as a load or a note walk tells it. */
+#define REKUSOYEN_PVH_IGNORED 0u     /* no note header, or an offset was given */
+#define REKUSOYEN_PVH_NOT_PRESENT 1u /* the notes have no PVH entry */
+#define REKUSOYEN_PVH_PRESENT 2u     /* the notes have one, and its address is told */
+
+/* How many places the lists of values have, and how many bytes the setup header. */
+#define REKUSOYEN_ELF_LOAD_OUT 4
+#define REKUSOYEN_ELF_NOTE_OUT 3
+#define REKUSOYEN_BZIMAGE_LOAD_OUT 2
+#define REKUSOYEN_SETUP_HEADER_SIZE 123
+
+/* The greatest length of an image and of guest memory. Texts have none. */
+#define REKUSOYEN_LONGEST_SLICE ((uint64_t)1 << 40)
+
+/*
+ * Loads an ELF image into guest memory.
+ *
+ *   guest    guest memory, its first byte at guest address 0
+ *   image    the whole file
+ *   flags    which of offset and highmem are given
+ *   offset   where given, it is added to every segment's p_paddr and to the load address
+ *   highmem  where given, the image's e_entry, before the offset is added, must not lie below it
+ *   out      REKUSOYEN_ELF_LOAD_OUT places: the load address (e_entry, plus the offset); the kernel's end (the greatest
+ *            address + p_memsz of the segments that are loaded, 0 without any; it may lie past guest memory); the PVH code;
+ *            and the PVH address or 0
+ *
+ * Program headers are taken in file order. One of type 1 (loadable) with p_filesz above 0 has its p_filesz bytes copied to
+ * its address, p_paddr plus the offset; guest memory after them, up to p_memsz, is not cleared. One of type 4 (notes) sets PVH
+ * anew: to ignored where an offset is given, else to what rekusoyen_elf_note says of its p_filesz bytes at p_offset. All others
+ * are skipped. Without a note header PVH is ignored.
+ *
+ * Refusals:
+ *   NO_ROOM                         out_len is not REKUSOYEN_ELF_LOAD_OUT
+ *   SLICE_TOO_LONG                  image_len or guest_len is above REKUSOYEN_LONGEST_SLICE
+ *   READ_ELF_HEADER                 image_len is below 64
+ *   INVALID_ELF_MAGIC_NUMBER, BIG_ENDIAN_ELF_ON_LITTLE, INVALID_PROGRAM_HEADER_SIZE, INVALID_PROGRAM_HEADER_OFFSET
+ *   INVALID_ENTRY_ADDRESS           highmem is given, and e_entry is below it
+ *   OVERFLOW                        offset + e_entry is 2^64 or more
+ *   READ_PROGRAM_HEADER             e_phnum is above 0, and the program headers pass the image
+ * and then of each program header in turn, of a loadable one with p_filesz above 0:
+ *   INVALID_PROGRAM_HEADER_ADDRESS  offset + p_paddr is 2^64 or more
+ *   READ_KERNEL_IMAGE               its bytes pass the image, or at their address guest memory
+ *   MEMORY_OVERFLOW                 its address + p_memsz is 2^64 or more
+ * and of one with notes, where no offset is given: READ_NOTE_HEADER, OVERFLOW and INVALID_PVH_NOTE as of rekusoyen_elf_note.
+ *
+ * Leaves, accepted: in guest the bytes of every segment that is loaded, a later one over an earlier; in out the four values.
+ * Leaves, refused: out as it was. A refusal above the program headers leaves guest as it was. One of a program header leaves in
+ * guest the bytes of the segments before that header and nothing of the headers after it; its own segment is written too where
+ * the refusal is MEMORY_OVERFLOW, and no byte of it where it is another.
+ */
+uint32_t rekusoyen_elf_load(
+    uint8_t *guest, size_t guest_len,
+    const uint8_t *image, size_t image_len,
+    uint32_t flags, uint64_t offset, uint64_t highmem,
+    uint64_t *out, size_t out_len);
+
+/*
+ * Walks over the notes of an ELF image until the one that holds the PVH entry: type 18, and the name `Xen` and a zero.
+ *
+ *   image     the whole file
+ *   p_offset  where in the image the notes begin
+ *   p_filesz  their size: a note that begins within it is read, as far as the image goes
+ *   out       REKUSOYEN_ELF_NOTE_OUT places: the PVH code (not present or present); the PVH address or 0; and how many note
+ *             headers were read, at most one for each twelve bytes begun of p_filesz
+ *
+ * Refusals:
+ *   NO_ROOM           out_len is not REKUSOYEN_ELF_NOTE_OUT
+ *   SLICE_TOO_LONG    image_len is above REKUSOYEN_LONGEST_SLICE
+ * and then of each note in turn:
+ *   READ_NOTE_HEADER  its header of 12 bytes passes the image; or its name does, where its type is 18 and its name size 4
+ *   OVERFLOW          it is not the PVH note, and its name size or its descriptor size is above FFFFFFFC hex
+ * and of the PVH note:
+ *   INVALID_PVH_NOTE  its descriptor size is below 4
+ *   READ_NOTE_HEADER  the first 4 bytes of its descriptor pass the image
+ *
+ * Leaves, accepted: in out the three values. Leaves, refused: out as it was.
+ */
+uint32_t rekusoyen_elf_note(
+    const uint8_t *image, size_t image_len,
+    uint64_t p_offset, uint64_t p_filesz,
+    uint64_t *out, size_t out_len);
+
+/*
+ * Loads the kernel of a bzImage into guest memory. Image bytes past its end count as 0 where the setup header is read.
+ *
+ *   guest    guest memory, its first byte at guest address 0
+ *   image    the whole file
+ *   flags    which of offset and highmem are given
+ *   offset   where given, it is the load address, in place of the image's code32_start
+ *   highmem  where given, the image's code32_start must not lie below it, whatever the offset is
+ *   out      REKUSOYEN_BZIMAGE_LOAD_OUT places: the load address, and the kernel's end (the load address + the kernel's size)
+ *   header   REKUSOYEN_SETUP_HEADER_SIZE bytes: the setup header
+ *
+ * The setup has setup_sects sectors (0 means 4) and one more, of 512 bytes each. All image bytes after it are the kernel.
+ *
+ * Refusals:
+ *   NO_ROOM                         out_len is not REKUSOYEN_BZIMAGE_LOAD_OUT, or header_len is not REKUSOYEN_SETUP_HEADER_SIZE
+ *   SLICE_TOO_LONG                  image_len or guest_len is above REKUSOYEN_LONGEST_SLICE
+ *   INVALID_BZ_IMAGE                the 4 bytes at 202 hex are not HdrS, or the version at 206 hex is below 0200 hex, or bit 0
+ *                                   of loadflags at 211 hex is 0
+ *   UNDERFLOW                       the image is shorter than its setup
+ *   INVALID_KERNEL_START_ADDRESS    highmem is given, and code32_start is below it
+ *   READ_BZ_IMAGE_COMPRESSED_KERNEL the kernel has a byte or more, and at the load address it passes guest memory
+ *
+ * Leaves, accepted: in guest the kernel from the load address on (nothing where it has no bytes); in out the two values; in
+ * header the bytes of the image from 1F1 hex on, but in code32_start the low 32 bits of the load address, least byte first.
+ * Leaves, refused: guest, out and header as they were.
+ */
+uint32_t rekusoyen_bzimage_load(
+    uint8_t *guest, size_t guest_len,
+    const uint8_t *image, size_t image_len,
+    uint32_t flags, uint64_t offset, uint64_t highmem,
+    uint64_t *out, size_t out_len,
+    uint8_t *header, size_t header_len);
+
+/* ---- lines */
+
+/*
+ * A kernel command line lives in REKUSOYEN_LINE_SIZE bytes that the caller owns and lends to each call: copied, moved and
+ * dropped as any bytes. They hold three numbers of 8 bytes, least byte first (the length of the boot text, the length of the
+ * init text, the capacity), then the boot text in REKUSOYEN_LINE_LIMIT bytes and the init text in as many, each followed by
+ * zeros.
+ *
+ * The counted size of a line is the length of its boot text + 1, and where there is init text 4 + its length more: what the
+ * written line takes with its zero.
+ *
+ * Bytes hold a line where both lengths are at most REKUSOYEN_LINE_LIMIT, the capacity is 1 to REKUSOYEN_LINE_LIMIT, the counted
+ * size is at most the capacity, and every byte past each text is 0; the texts may have any bytes. Every call but a making tests
+ * this, whoever wrote the bytes; what an accepted call leaves holds a line.
+ *
+ * Every refused call leaves everything that it was lent as it was. An accepted call that is lent a line to change leaves all
+ * its REKUSOYEN_LINE_SIZE bytes fixed: the texts that its comment names, zeros past them, and the capacity of the making.
+ */
+#define REKUSOYEN_LINE_LIMIT 4096
+#define REKUSOYEN_LINE_SIZE (24 + 2 * REKUSOYEN_LINE_LIMIT)
+
+/* How many places the lists for a count and for a comparison have. */
+#define REKUSOYEN_LINE_AS_CSTRING_COUNT 1
+#define REKUSOYEN_LINE_EQUAL_OUT 1
+
+/*
+ * Makes an empty line, over whatever the bytes held.
+ *
+ *   line      REKUSOYEN_LINE_SIZE bytes
+ *   capacity  the greatest counted size
+ *
+ * Refusals:
+ *   NO_ROOM           line_len is not REKUSOYEN_LINE_SIZE
+ *   INVALID_CAPACITY  capacity is 0 or above REKUSOYEN_LINE_LIMIT
+ *
+ * Leaves, accepted: in line a line of this capacity without text.
+ */
+uint32_t rekusoyen_line_new(uint8_t *line, size_t line_len, uint64_t capacity);
+
+/*
+ * Makes a line from its whole text, over whatever the bytes held. The text is split at the first space-dash-dash-space that has
+ * an even number of double quotes before it; what lies before is the boot text and what lies after the init text, each without
+ * the blanks (bytes 9 to 13 and 32) at its ends. Where nothing splits it, it is all boot text. No other test is made of its
+ * bytes.
+ *
+ *   line      REKUSOYEN_LINE_SIZE bytes
+ *   text      the text, without a closing zero
+ *   capacity  the greatest counted size
+ *
+ * Refusals:
+ *   NO_ROOM           line_len is not REKUSOYEN_LINE_SIZE
+ *   INVALID_CAPACITY  capacity is 0 or above REKUSOYEN_LINE_LIMIT, or the counted size of the two texts is above it
+ *
+ * Leaves, accepted: in line a line of this capacity with the two texts.
+ */
+uint32_t rekusoyen_line_try_from(
+    uint8_t *line, size_t line_len,
+    const uint8_t *text, size_t text_len,
+    uint64_t capacity);
+
+/*
+ * Puts key=value after the boot text, with a space between where there is boot text.
+ *
+ *   line   a line
+ *   key    may be empty
+ *   value  may be empty; it is quoted where it has two bytes or more and a double quote at each end
+ *
+ * Refusals:
+ *   NO_ROOM           line_len is not REKUSOYEN_LINE_SIZE
+ *   INVALID_CAPACITY  the bytes hold no line
+ *   INVALID_ASCII     key has a byte outside 32 to 126
+ *   HAS_SPACE         key has a space
+ *   HAS_EQUALS        key has an equals sign
+ *   INVALID_ASCII     value has a byte outside 32 to 126
+ *   INVALID_QUOTE     value has a quote strictly between its first byte and its last
+ *   NO_QUOTE_SPACE    value has a space and is not quoted
+ *   TOO_LARGE         the counted size after it would be above the capacity
+ *
+ * Leaves, accepted: in line the boot text, a space if it was not empty, key, equals sign and value.
+ */
+uint32_t rekusoyen_line_insert(
+    uint8_t *line, size_t line_len,
+    const uint8_t *key, size_t key_len,
+    const uint8_t *value, size_t value_len);
+
+/*
+ * Puts key=value,value.. after the boot text, with a space between where there is boot text.
+ *
+ *   line    a line
+ *   key     may be empty
+ *   values  the values, one after the other with nothing between
+ *   ends    where each value ends in values, counted from its start: each begins where the one before it ends
+ *
+ * Refusals:
+ *   NO_ROOM           line_len is not REKUSOYEN_LINE_SIZE
+ *   INVALID_CAPACITY  the bytes hold no line
+ *   BAD_LIST          ends is not empty, and an end is below the one before it, or the last is not values_len
+ *   INVALID_ASCII, HAS_SPACE, HAS_EQUALS of key, as of rekusoyen_line_insert
+ *   MISSING_VAL       ends is empty
+ *   INVALID_ASCII, INVALID_QUOTE, NO_QUOTE_SPACE of each value in turn, as of rekusoyen_line_insert
+ *   TOO_LARGE         the counted size after it would be above the capacity
+ *
+ * Leaves, accepted: in line the boot text, a space if it was not empty, key, equals sign and the values with commas between.
+ */
+uint32_t rekusoyen_line_insert_multiple(
+    uint8_t *line, size_t line_len,
+    const uint8_t *key, size_t key_len,
+    const uint8_t *values, size_t values_len,
+    const size_t *ends, size_t ends_len);
+
+/*
+ * Puts a slug after the boot text, with a space between where there is boot text. The slug is taken without the blanks (bytes 9
+ * to 13 and 32) at its ends. An empty one is accepted: after boot text it adds the one space.
+ *
+ *   line  a line
+ *   slug  any text
+ *
+ * Refusals:
+ *   NO_ROOM           line_len is not REKUSOYEN_LINE_SIZE
+ *   INVALID_CAPACITY  the bytes hold no line
+ *   INVALID_ASCII     the slug without the blanks at its ends has a byte outside 32 to 126
+ *   TOO_LARGE         the counted size after it would be above the capacity
+ *
+ * Leaves, accepted: in line the boot text, a space if it was not empty, and the slug without the blanks at its ends.
+ */
+uint32_t rekusoyen_line_insert_str(uint8_t *line, size_t line_len, const uint8_t *slug, size_t slug_len);
+
+/*
+ * The same for the init text: the slug goes after it, with a space between where there is init text.
+ *
+ *   line  a line
+ *   slug  any text
+ *
+ * Refusals: those of rekusoyen_line_insert_str, in its order. Where there is no init text, an empty slug too asks for 4 bytes
+ * of room, as the separator takes.
+ *
+ * Leaves, accepted: in line the init text, a space if it was not empty, and the slug without the blanks at its ends.
+ */
+uint32_t rekusoyen_line_insert_init_args(uint8_t *line, size_t line_len, const uint8_t *slug, size_t slug_len);
+
+/*
+ * Puts virtio_mmio.device=SIZE@0xADDRESS:IRQ, and :ID if there is one, after the boot text, with a space between where there is
+ * boot text. SIZE is told in G, M or K, by the largest that divides it, else in bytes. ADDRESS is hexadecimal, in small
+ * letters; all else is decimal. This takes at most 80 bytes.
+ *
+ *   line     a line
+ *   size     of the device's memory, in bytes
+ *   address  where that begins
+ *   irq      its interrupt
+ *   has_id   0 for a device without an ID, any other number for one with an ID
+ *   id       its ID; not looked at where it has none
+ *
+ * Refusals:
+ *   NO_ROOM           line_len is not REKUSOYEN_LINE_SIZE
+ *   INVALID_CAPACITY  the bytes hold no line
+ *   MMIO_SIZE         size is 0
+ *   TOO_LARGE         the counted size after it would be above the capacity
+ *
+ * Leaves, accepted: in line the boot text, a space if it was not empty, and the device.
+ */
+uint32_t rekusoyen_line_add_virtio_mmio_device(
+    uint8_t *line, size_t line_len,
+    uint64_t size, uint64_t address, uint32_t irq, uint32_t has_id, uint32_t id);
+
+/*
+ * Writes the line as a C string: the boot text, where there is init text space-dash-dash-space and the init text, and a zero.
+ *
+ *   line   a line
+ *   out    for the text and its zero; as many bytes as the line's capacity are always enough
+ *   count  REKUSOYEN_LINE_AS_CSTRING_COUNT place: how many bytes were written, the zero counted
+ *
+ * Refusals:
+ *   NO_ROOM                count_len is not REKUSOYEN_LINE_AS_CSTRING_COUNT, or line_len is not REKUSOYEN_LINE_SIZE
+ *   INVALID_CAPACITY       the bytes hold no line
+ *   NO_BOOT_ARGS_INSERTED  there is init text and no boot text
+ *   NULL_TERMINATOR        there is a zero byte within the text
+ *   NO_ROOM                out_len is below what would be written
+ *
+ * Leaves, accepted: in out the text and its zero from the first byte on, the bytes after them as they were; in count the count.
+ */
+uint32_t rekusoyen_line_as_cstring(
+    const uint8_t *line, size_t line_len,
+    uint8_t *out, size_t out_len,
+    uint64_t *count, size_t count_len);
+
+/*
+ * Are two lines equal? They are where both would be written, given room, as the same text, or both be refused for the same
+ * reason. So the capacity does not count, and all lines with init text alone are equal.
+ *
+ *   a, b  two lines, or one line twice
+ *   out   REKUSOYEN_LINE_EQUAL_OUT place: 1 where they are equal, else 0
+ *
+ * Refusals:
+ *   NO_ROOM           out_len is not REKUSOYEN_LINE_EQUAL_OUT, or a_len is not REKUSOYEN_LINE_SIZE
+ *   INVALID_CAPACITY  the bytes of a hold no line
+ *   NO_ROOM           b_len is not REKUSOYEN_LINE_SIZE
+ *   INVALID_CAPACITY  the bytes of b hold no line
+ *
+ * Leaves, accepted: in out the answer.
+ */
+uint32_t rekusoyen_line_equal(
+    const uint8_t *a, size_t a_len,
+    const uint8_t *b, size_t b_len,
+    uint64_t *out, size_t out_len);
+
+/*
+ * Writes the line into guest memory, as rekusoyen_line_as_cstring writes it.
+ *
+ *   guest    guest memory, its first byte at guest address 0
+ *   address  where the text begins
+ *   line     a line
+ *
+ * Refusals:
+ *   NO_ROOM                line_len is not REKUSOYEN_LINE_SIZE
+ *   INVALID_CAPACITY       the bytes hold no line
+ *   SLICE_TOO_LONG         guest_len is above REKUSOYEN_LONGEST_SLICE
+ *   INVALID_COMMAND_LINE   rekusoyen_line_as_cstring would answer NO_BOOT_ARGS_INSERTED or NULL_TERMINATOR
+ *   COMMAND_LINE_OVERFLOW  the text and its zero pass guest memory
+ *
+ * Leaves, accepted: in guest the text and its zero from the address on.
+ */
+uint32_t rekusoyen_line_load(
+    uint8_t *guest, size_t guest_len,
+    uint64_t address,
+    const uint8_t *line, size_t line_len);
+
+#ifdef __cplusplus
+}
+#endif
+
+#endif

@@ -1,0 +1,152 @@
+/* How much stack a call uses: it runs on a thread whose stack is filled before, and what is no longer as filled was used. */
+#include "check.h"
+#include "images.h"
+#include "tests.h"
+
+#include <pthread.h>
+#include <stdio.h>
+#include <stdlib.h>
+
+#define STACK_SIZE ((size_t)1 << 20)
+#define FILL 0xa7
+
+/* What is left unfilled below the frame that makes the call, for that frame itself. */
+#define OWN_FRAME 512
+
+static uint8_t line[REKUSOYEN_LINE_SIZE], other_line[REKUSOYEN_LINE_SIZE];
+static uint8_t guest[64], setup_header[REKUSOYEN_SETUP_HEADER_SIZE];
+static uint64_t out[REKUSOYEN_ELF_LOAD_OUT];
+static struct image elf, bzimage;
+static const uint8_t text[] = "text";
+static const size_t ends[] = {2, 4};
+
+static uint32_t elf_load(void)
+{
+    return rekusoyen_elf_load(guest, sizeof guest, elf.bytes, elf.size, 0, 0, 0, out, REKUSOYEN_ELF_LOAD_OUT);
+}
+
+static uint32_t elf_note(void)
+{
+    return rekusoyen_elf_note(elf.bytes, elf.size, ELF_HEADER_SIZE, PROGRAM_HEADER_SIZE, out, REKUSOYEN_ELF_NOTE_OUT);
+}
+
+static uint32_t bzimage_load(void)
+{
+    return rekusoyen_bzimage_load(
+        guest, sizeof guest, bzimage.bytes, bzimage.size, 0, 0, 0,
+        out, REKUSOYEN_BZIMAGE_LOAD_OUT, setup_header, sizeof setup_header);
+}
+
+static uint32_t line_new(void)
+{
+    return rekusoyen_line_new(line, sizeof line, REKUSOYEN_LINE_LIMIT);
+}
+
+static uint32_t line_try_from(void)
+{
+    return rekusoyen_line_try_from(other_line, sizeof other_line, text, 4, REKUSOYEN_LINE_LIMIT);
+}
+
+static uint32_t line_insert(void)
+{
+    return rekusoyen_line_insert(line, sizeof line, text, 4, text, 4);
+}
+
+static uint32_t line_insert_multiple(void)
+{
+    return rekusoyen_line_insert_multiple(line, sizeof line, text, 4, text, 4, ends, 2);
+}
+
+static uint32_t line_insert_str(void)
+{
+    return rekusoyen_line_insert_str(line, sizeof line, text, 4);
+}
+
+static uint32_t line_insert_init_args(void)
+{
+    return rekusoyen_line_insert_init_args(line, sizeof line, text, 4);
+}
+
+static uint32_t line_add_virtio_mmio_device(void)
+{
+    return rekusoyen_line_add_virtio_mmio_device(line, sizeof line, UINT64_MAX, UINT64_MAX, UINT32_MAX, 1, UINT32_MAX);
+}
+
+static uint32_t line_as_cstring(void)
+{
+    return rekusoyen_line_as_cstring(other_line, sizeof other_line, guest, sizeof guest, out, 1);
+}
+
+static uint32_t line_equal(void)
+{
+    return rekusoyen_line_equal(line, sizeof line, other_line, sizeof other_line, out, 1);
+}
+
+static uint32_t line_load(void)
+{
+    return rekusoyen_line_load(guest, sizeof guest, 0, other_line, sizeof other_line);
+}
+
+/* Every function, in an order in which each call is accepted. */
+static const struct {
+    const char *name;
+    uint32_t (*make)(void);
+    size_t limit;
+} calls[] = {
+    {"rekusoyen_elf_load", elf_load, REKUSOYEN_LOAD_STACK_SIZE},
+    {"rekusoyen_elf_note", elf_note, REKUSOYEN_LOAD_STACK_SIZE},
+    {"rekusoyen_bzimage_load", bzimage_load, REKUSOYEN_LOAD_STACK_SIZE},
+    {"rekusoyen_line_new", line_new, REKUSOYEN_LINE_STACK_SIZE},
+    {"rekusoyen_line_try_from", line_try_from, REKUSOYEN_LINE_STACK_SIZE},
+    {"rekusoyen_line_insert", line_insert, REKUSOYEN_LINE_STACK_SIZE},
+    {"rekusoyen_line_insert_multiple", line_insert_multiple, REKUSOYEN_LINE_STACK_SIZE},
+    {"rekusoyen_line_insert_str", line_insert_str, REKUSOYEN_LINE_STACK_SIZE},
+    {"rekusoyen_line_insert_init_args", line_insert_init_args, REKUSOYEN_LINE_STACK_SIZE},
+    {"rekusoyen_line_add_virtio_mmio_device", line_add_virtio_mmio_device, REKUSOYEN_LINE_STACK_SIZE},
+    {"rekusoyen_line_as_cstring", line_as_cstring, REKUSOYEN_LINE_STACK_SIZE},
+    {"rekusoyen_line_equal", line_equal, REKUSOYEN_LINE_STACK_SIZE},
+    {"rekusoyen_line_load", line_load, REKUSOYEN_LINE_STACK_SIZE},
+};
+
+#define CALLS (sizeof calls / sizeof calls[0])
+
+static uint32_t answers[CALLS];
+static size_t used[CALLS];
+
+/* Makes each call with the stack below this frame filled, and looks how far down it was changed. */
+static void *measure(void *stack)
+{
+    volatile uint8_t here = 0, *bottom = stack;
+    const size_t free_size = (size_t)(&here - bottom), filled = free_size - OWN_FRAME;
+    for (size_t i = 0; i < CALLS; i++) {
+        for (size_t at = 0; at < filled; at++)
+            bottom[at] = FILL;
+        answers[i] = calls[i].make();
+        size_t kept = 0;
+        while (kept < filled && bottom[kept] == FILL)
+            kept++;
+        used[i] = free_size - kept;
+    }
+    return NULL;
+}
+
+void test_stack(void)
+{
+    void *stack = NULL;
+    pthread_attr_t attributes;
+    pthread_t thread;
+    elf = small_elf();
+    bzimage = bz_image(1, 16, "k", 1);
+    const int started = posix_memalign(&stack, 65536, STACK_SIZE) == 0 && pthread_attr_init(&attributes) == 0 &&
+                        pthread_attr_setstack(&attributes, stack, STACK_SIZE) == 0 &&
+                        pthread_create(&thread, &attributes, measure, stack) == 0 && pthread_join(thread, NULL) == 0;
+    CHECK(started, "a thread with a stack of its own ran");
+    size_t most = 0;
+    for (size_t i = 0; started && i < CALLS; i++) {
+        CHECK_ANSWER(calls[i].name, answers[i], REKUSOYEN_ACCEPTED);
+        CHECK(used[i] <= calls[i].limit, "%s used %zu bytes of stack", calls[i].name, used[i]);
+        most = used[i] > most ? used[i] : most;
+    }
+    printf("c: a call used up to %zu bytes of stack\n", most);
+    free(stack);
+}

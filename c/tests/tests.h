@@ -1,0 +1,15 @@
+/* The tests, one subject each. */
+#ifndef TESTS_H
+#define TESTS_H
+
+void test_elf(void);
+void test_notes(void);
+void test_bzimage(void);
+void test_line_calls(void);
+void test_line_bytes(void);
+void test_line_output(void);
+void test_long_slices(void);
+void test_empty_slices(void);
+void test_stack(void);
+
+#endif
