@@ -13,6 +13,8 @@ pub type Load<'a> = Box<dyn FnMut() -> KernelLoaderResult + 'a>;
 pub type Lines = Box<dyn Fn() -> Vec<Vec<u8>>>;
 
 pub trait Contestant {
+    fn name(&self) -> &'static str;
+
     /// Makes the load of an ELF image ready. High memory starts where the image's kernel goes.
     fn elf<'a>(&self, guest: &'a mut [u8], image: &'a [u8]) -> Load<'a>;
 
@@ -27,6 +29,10 @@ pub trait Contestant {
 pub struct Library;
 
 impl Contestant for Library {
+    fn name(&self) -> &'static str {
+        "library"
+    }
+
     fn elf<'a>(&self, guest: &'a mut [u8], image: &'a [u8]) -> Load<'a> {
         let highmem = Some(GuestAddress(START));
         Box::new(move || Elf::load_into(guest, None, image, highmem).expect("a good image"))
@@ -56,6 +62,10 @@ impl Contestant for Library {
 pub struct Plain;
 
 impl Contestant for Plain {
+    fn name(&self) -> &'static str {
+        "plain"
+    }
+
     fn elf<'a>(&self, guest: &'a mut [u8], image: &'a [u8]) -> Load<'a> {
         Box::new(move || plain::load_elf(guest, None, image, Some(START)).expect("a good image"))
     }

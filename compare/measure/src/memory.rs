@@ -3,9 +3,9 @@
 use std::ops::{Deref, DerefMut};
 
 /// A multiple of every usual page size.
-const PAGE: usize = 1 << 16;
+const ALIGNMENT: usize = 1 << 16;
 
-/// How many bytes of guest memory a load gets. So much is mapped anew for each allocation and given back at its end.
+/// How many bytes of guest memory a load gets. The allocator maps so large a piece anew each time, and gives it back at its end.
 pub const GUEST: usize = 64 << 20;
 
 pub struct Memory {
@@ -15,10 +15,10 @@ pub struct Memory {
 }
 
 impl Memory {
-    /// Zeros. Of a large piece the system has given no page yet: each costs a fault when it is first touched.
+    /// Zeros. Of a large piece the system has given no page yet: each costs a fault at its first touch.
     pub fn untouched(length: usize) -> Memory {
-        let bytes = vec![0; length + PAGE];
-        let start = bytes.as_ptr().align_offset(PAGE);
+        let bytes = vec![0; length + ALIGNMENT];
+        let start = bytes.as_ptr().align_offset(ALIGNMENT);
         Memory {
             bytes,
             start,
@@ -39,6 +39,12 @@ impl From<&[u8]> for Memory {
         let mut memory = Memory::untouched(content.len());
         memory.copy_from_slice(content);
         memory
+    }
+}
+
+impl PartialEq for Memory {
+    fn eq(&self, other: &Memory) -> bool {
+        **self == **other
     }
 }
 

@@ -2,7 +2,7 @@
 
 use crate::contestants::Contestant;
 use crate::rounds::{ratio, spread, Spread};
-use crate::works::{self, Pages, Times};
+use crate::works::{Pages, Times, Work};
 
 // the order of the contestants
 const PLAIN: usize = 0;
@@ -10,31 +10,17 @@ const LIBRARY: usize = 1;
 const PUBLISHED: usize = 2;
 
 /// Measures every work, and prints a table of the works in memory that was touched before, and one of those in memory that was not.
-pub fn print(contestants: &[Box<dyn Contestant>]) {
+pub fn print(works: &[Work], contestants: &[Box<dyn Contestant>]) {
     let columns = columns(contestants.len());
     println!("Guest memory touched before, and not cleared between loads:\n");
     head(&columns);
-    let loads = works::loads();
-    for work in &loads {
-        row(
-            work.title,
-            &work.times(contestants, Pages::Touched),
-            &columns,
-        );
+    for work in works {
+        row(work, &work.times(contestants, Pages::Touched), &columns);
     }
-    row(
-        "1,000 insertions",
-        &works::insertion_times(contestants),
-        &columns,
-    );
     println!("\nGuest memory fresh from the system for each load:\n");
     head(&columns);
-    for work in &loads {
-        row(
-            work.title,
-            &work.times(contestants, Pages::Untouched),
-            &columns,
-        );
+    for work in works.iter().filter(|work| work.is_load()) {
+        row(work, &work.times(contestants, Pages::Untouched), &columns);
     }
 }
 
@@ -67,18 +53,32 @@ fn head(columns: &[Column]) {
     println!("|---|---|{}", "---|".repeat(columns.len()));
 }
 
-fn row(title: &str, times: &Times, columns: &[Column]) {
+fn row(work: &Work, times: &Times, columns: &[Column]) {
     let cells: Vec<_> = columns
         .iter()
         .map(|column| cell(ratio(&times[column.first], &times[column.second])))
         .collect();
     let plain = duration(spread(times[PLAIN].clone()).median);
-    println!("| {title} | {plain} | {} |", cells.join(" | "));
+    println!("| {} | {plain} | {} |", work.title, cells.join(" | "));
 }
 
 fn cell(ratio: Spread) -> String {
     let Spread { low, median, high } = ratio;
-    format!("**{median:.2}** ({low:.2} to {high:.2})")
+    format!(
+        "**{}** ({} to {})",
+        figure(median),
+        figure(low),
+        figure(high)
+    )
+}
+
+/// Three digits, or those before the point.
+fn figure(ratio: f64) -> String {
+    match ratio {
+        r if r >= 100.0 => format!("{r:.0}"),
+        r if r >= 10.0 => format!("{r:.1}"),
+        r => format!("{r:.2}"),
+    }
 }
 
 /// Two digits, for orientation.
@@ -114,6 +114,11 @@ mod tests {
             high: 2.0,
         };
         assert_eq!(cell(ratio), "**1.21** (0.99 to 2.00)");
+    }
+
+    #[test]
+    fn a_figure_has_three_digits() {
+        assert_eq!([1.0, 34.46, 141.7].map(figure), ["1.00", "34.5", "142"]);
     }
 
     #[test]

@@ -16,6 +16,10 @@ fn main() {
 struct Published;
 
 impl Contestant for Published {
+    fn name(&self) -> &'static str {
+        "crate"
+    }
+
     fn elf<'a>(&self, guest: &'a mut [u8], image: &'a [u8]) -> Load<'a> {
         ready::<loader::Elf>(guest, image)
     }
