@@ -13,8 +13,8 @@ const PROGRAM_HEADER: usize = 56;
 const PAGE: usize = 4096;
 const SECTOR: usize = 512;
 
-/// An ELF image of so many loadable segments of so many bytes. They stand one after the other in the image, from a page on, and go
-/// one after the other to guest memory.
+/// An ELF image of so many loadable segments of so many bytes. They stand one after the other in the image, from a page on, and
+/// go one after the other to guest memory.
 pub fn elf(segments: usize, size: usize) -> Memory {
     let first = (HEADER + PROGRAM_HEADER * segments).next_multiple_of(PAGE);
     let mut image = bytes(first + segments * size);
@@ -52,7 +52,7 @@ pub fn bzimage(size: usize) -> Memory {
 /// The keys and values of one line.
 pub type Pairs = Vec<(String, String)>;
 
-/// The pairs of each line: `name000=value000` and on, 16 bytes and the space before them, so that 200 of them fill most of a line.
+/// The pairs of each line: `name000=value000` and on, 16 bytes and a space, so that 200 of them fill most of a line.
 pub fn pairs(lines: usize, pairs: usize) -> Vec<Pairs> {
     let pair = |number| (format!("name{number:03}"), format!("value{number:03}"));
     let line = |line| (line * pairs..(line + 1) * pairs).map(pair).collect();

@@ -14,8 +14,8 @@ use contestants::{Contestant, Library, Plain};
 use memory::{Memory, GUEST};
 use works::Pages;
 
-/// Without words: checks that all contestants do the same, measures them, and prints the tables. With words, CONTESTANT WORK TIMES:
-/// does one work so often, for a profiler to look at.
+/// Without words: checks that all contestants do the same, measures them, and prints the tables. With the words CONTESTANT WORK
+/// TIMES: does one work so often, for a profiler to look at.
 pub fn run(published: Option<Box<dyn Contestant>>) {
     let mut contestants: Vec<Box<dyn Contestant>> = vec![Box::new(Plain), Box::new(Library)];
     contestants.extend(published);

@@ -1,5 +1,5 @@
-//! A plain Rust loader, written for this measurement: the library's tests in its order, and `copy_from_slice`. Two things it leaves
-//! out, since no image here needs them: the walk over notes, and the limit of 2^40 bytes.
+//! A plain Rust loader, written for this measurement: the library's tests in its order, and `copy_from_slice`. Two things it
+//! leaves out, since no image here needs them: the walk over notes, and the limit of 2^40 bytes.
 
 use rekusoyen::loader::{bootparam, KernelLoaderResult};
 use rekusoyen::{GuestAddress, Refusal};

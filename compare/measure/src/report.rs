@@ -9,7 +9,7 @@ const PLAIN: usize = 0;
 const LIBRARY: usize = 1;
 const PUBLISHED: usize = 2;
 
-/// Measures every work, and prints a table of the works in memory that was touched before, and one of those in memory that was not.
+/// Measures every work in memory that was touched before, and the loads in fresh memory, and prints a table of each.
 pub fn print(works: &[Work], contestants: &[Box<dyn Contestant>]) {
     let columns = columns(contestants.len());
     println!("Guest memory touched before, and not cleared between loads:\n");

@@ -2,8 +2,8 @@
 
 use std::time::Duration;
 
-/// Takes a sample of each contestant in every round, so that a change of the machine's pace meets all alike. Each round begins with
-/// another contestant. Gives the seconds of each contestant, round by round.
+/// Takes a sample of each contestant in every round, so that a change of the machine's pace meets all alike. Each round begins
+/// with another contestant. Gives the seconds of each contestant, round by round.
 pub fn interleaved(
     contestants: usize,
     rounds: usize,
