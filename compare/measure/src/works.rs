@@ -148,3 +148,62 @@ fn timed<T>(repetitions: u32, mut work: impl FnMut() -> T) -> Duration {
     }
     start.elapsed()
 }
+
+#[cfg(test)]
+mod tests {
+    use super::*;
+    use crate::contestants::{Library, Lines, Plain};
+
+    /// Does as the plain loader does, but for one byte.
+    struct Spoilt;
+
+    impl Contestant for Spoilt {
+        fn name(&self) -> &'static str {
+            "spoilt"
+        }
+
+        fn elf<'a>(&self, guest: &'a mut [u8], image: &'a [u8]) -> Load<'a> {
+            Box::new(move || {
+                let answer = Plain.elf(guest, image)();
+                guest[GUEST - 1] ^= 1;
+                answer
+            })
+        }
+
+        fn bzimage<'a>(&self, guest: &'a mut [u8], image: &'a [u8]) -> Load<'a> {
+            Box::new(move || {
+                let mut answer = Plain.bzimage(guest, image)();
+                answer.kernel_end ^= 1;
+                answer
+            })
+        }
+
+        fn lines(&self, lists: &[Pairs]) -> Lines {
+            let lines = Plain.lines(lists);
+            Box::new(move || {
+                let mut texts = lines();
+                texts[0][0] ^= 1;
+                texts
+            })
+        }
+    }
+
+    #[test]
+    fn a_single_byte_is_noticed() {
+        let given = [
+            Given::Elf(images::elf(2, 100)),
+            Given::BzImage(images::bzimage(8 * 512 + 100)),
+            Given::Insertions(images::pairs(1, 2)),
+        ];
+        for given in given {
+            let work = Work {
+                name: "",
+                title: "",
+                given,
+            };
+            let wanted = work.outcome(&Plain);
+            assert!(work.outcome(&Library) == wanted);
+            assert!(work.outcome(&Spoilt) != wanted);
+        }
+    }
+}
