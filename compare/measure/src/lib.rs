@@ -1,0 +1,40 @@
+//! How long the same works take three contestants, in one process and on the same bytes: the proved library, a plain Rust loader
+//! and, where it can be had, the published crate.
+
+pub mod contestants;
+pub mod images;
+pub mod memory;
+mod plain;
+mod plain_line;
+mod report;
+mod rounds;
+mod works;
+
+use contestants::{Contestant, Library, Plain};
+use memory::{Memory, GUEST};
+use works::Pages;
+
+/// Without words: checks that all contestants do the same, measures them, and prints the tables. With the words CONTESTANT WORK
+/// TIMES: does one work so often, for a profiler to look at.
+pub fn run(published: Option<Box<dyn Contestant>>) {
+    let mut contestants: Vec<Box<dyn Contestant>> = vec![Box::new(Plain), Box::new(Library)];
+    contestants.extend(published);
+    let works = works::all();
+    let words: Vec<_> = std::env::args().skip(1).collect();
+    match words.as_slice() {
+        [] => {
+            works::check(&works, &contestants);
+            report::print(&works, &contestants);
+        }
+        [name, work, times] => {
+            let contestant = contestants.iter().find(|one| one.name() == name);
+            let contestant = contestant.expect("a contestant's name");
+            let work = works.iter().find(|one| one.name == work);
+            let work = work.expect("a work's name");
+            let times = times.parse().expect("a number of times");
+            let mut guest = Memory::filled(GUEST, 1);
+            work.repeat(contestant.as_ref(), Pages::Touched, &mut guest, times);
+        }
+        _ => panic!("the words are CONTESTANT WORK TIMES, or none"),
+    }
+}

@@ -1,0 +1,5 @@
+//! The measurement without the published crate.
+
+fn main() {
+    measure::run(None);
+}

@@ -1,0 +1,209 @@
+//! The works: what is done, that all contestants do the same, and how long it takes each.
+
+use crate::contestants::{Contestant, Load};
+use crate::images::{self, Pairs};
+use crate::memory::{Memory, GUEST};
+use crate::rounds;
+use rekusoyen::loader::KernelLoaderResult;
+use std::hint::black_box;
+use std::time::{Duration, Instant};
+
+/// The rounds of each work.
+const ROUNDS: usize = 60;
+
+/// How long a sample takes, about: each contestant repeats the work so often.
+const SAMPLE: Duration = Duration::from_millis(20);
+
+/// What one repetition takes each contestant, in seconds, round by round.
+pub type Times = Vec<Vec<f64>>;
+
+pub struct Work {
+    pub name: &'static str,
+    pub title: &'static str,
+    given: Given,
+}
+
+/// What a work is given.
+enum Given {
+    Elf(Memory),
+    BzImage(Memory),
+    Insertions(Vec<Pairs>),
+}
+
+/// Is guest memory there when a load begins, or does each page cost a fault?
+#[derive(Clone, Copy)]
+pub enum Pages {
+    Touched,
+    Untouched,
+}
+
+pub fn all() -> Vec<Work> {
+    let elf = |segments, size| Given::Elf(images::elf(segments, size));
+    let works = [
+        ("large", "ELF, 4 segments of 8 MiB", elf(4, 8 << 20)),
+        (
+            "bzimage",
+            "bzImage of 14 MiB",
+            Given::BzImage(images::bzimage(14 << 20)),
+        ),
+        ("pages", "ELF, 1,000 segments of 4 KiB", elf(1000, 4096)),
+        ("small", "ELF, 1,000 segments of 64 bytes", elf(1000, 64)),
+        // a line is full after some 240 of these pairs
+        (
+            "lines",
+            "1,000 insertions, into 5 lines",
+            Given::Insertions(images::pairs(5, 200)),
+        ),
+    ];
+    let work = |(name, title, given)| Work { name, title, given };
+    works.map(work).into()
+}
+
+impl Work {
+    pub fn is_load(&self) -> bool {
+        !matches!(self.given, Given::Insertions(_))
+    }
+
+    /// Does the work so often, and gives the time. What is made ready for a load does not count; the making of lines does.
+    pub fn repeat(
+        &self,
+        contestant: &dyn Contestant,
+        pages: Pages,
+        guest: &mut Memory,
+        repetitions: u32,
+    ) -> Duration {
+        match (&self.given, pages) {
+            (Given::Insertions(lists), _) => {
+                timed(repetitions, || contestant.lines(black_box(lists)))
+            }
+            (_, Pages::Touched) => timed(repetitions, self.ready(contestant, guest)),
+            (_, Pages::Untouched) => (0..repetitions)
+                .map(|_| timed(1, self.ready(contestant, &mut Memory::untouched(GUEST))))
+                .sum(),
+        }
+    }
+
+    fn ready<'a>(&'a self, contestant: &dyn Contestant, guest: &'a mut [u8]) -> Load<'a> {
+        match &self.given {
+            Given::Elf(image) => contestant.elf(guest, image),
+            Given::BzImage(image) => contestant.bzimage(guest, image),
+            Given::Insertions(_) => unreachable!("insertions are no load"),
+        }
+    }
+
+    pub fn times(&self, contestants: &[Box<dyn Contestant>], pages: Pages) -> Times {
+        let mut guest = Memory::filled(GUEST, 1);
+        let mut sample = |which: usize, repetitions| {
+            self.repeat(contestants[which].as_ref(), pages, &mut guest, repetitions)
+        };
+        // the first repetition warms up, the second tells how many make a sample
+        let mut repetitions = vec![];
+        for which in 0..contestants.len() {
+            sample(which, 1);
+            let once = sample(which, 1).as_nanos().max(1);
+            repetitions.push(SAMPLE.as_nanos().div_ceil(once) as u32);
+        }
+        rounds::interleaved(contestants.len(), ROUNDS, |which| {
+            sample(which, repetitions[which]) / repetitions[which]
+        })
+    }
+
+    fn outcome(&self, contestant: &dyn Contestant) -> Outcome {
+        if let Given::Insertions(lists) = &self.given {
+            return Outcome::Built(contestant.lines(lists)());
+        }
+        let mut guest = Memory::filled(GUEST, 0xa5);
+        let answer = self.ready(contestant, &mut guest)();
+        Outcome::Loaded(answer, guest)
+    }
+}
+
+/// What a work leaves: the answer and guest memory, or the texts of the lines.
+#[derive(PartialEq)]
+enum Outcome {
+    Loaded(KernelLoaderResult, Memory),
+    Built(Vec<Vec<u8>>),
+}
+
+/// Every contestant does every work: all give the same answer and leave the same bytes.
+pub fn check(works: &[Work], contestants: &[Box<dyn Contestant>]) {
+    for work in works {
+        let first = work.outcome(contestants[0].as_ref());
+        for other in &contestants[1..] {
+            assert!(
+                work.outcome(other.as_ref()) == first,
+                "{}: {} does not do as {} does",
+                work.title,
+                other.name(),
+                contestants[0].name()
+            );
+        }
+    }
+}
+
+fn timed<T>(repetitions: u32, mut work: impl FnMut() -> T) -> Duration {
+    let start = Instant::now();
+    for _ in 0..repetitions {
+        black_box(work());
+    }
+    start.elapsed()
+}
+
+#[cfg(test)]
+mod tests {
+    use super::*;
+    use crate::contestants::{Library, Lines, Plain};
+
+    /// Does as the plain loader does, but for one byte.
+    struct Spoilt;
+
+    impl Contestant for Spoilt {
+        fn name(&self) -> &'static str {
+            "spoilt"
+        }
+
+        fn elf<'a>(&self, guest: &'a mut [u8], image: &'a [u8]) -> Load<'a> {
+            Box::new(move || {
+                let answer = Plain.elf(guest, image)();
+                guest[GUEST - 1] ^= 1;
+                answer
+            })
+        }
+
+        fn bzimage<'a>(&self, guest: &'a mut [u8], image: &'a [u8]) -> Load<'a> {
+            Box::new(move || {
+                let mut answer = Plain.bzimage(guest, image)();
+                answer.kernel_end ^= 1;
+                answer
+            })
+        }
+
+        fn lines(&self, lists: &[Pairs]) -> Lines {
+            let lines = Plain.lines(lists);
+            Box::new(move || {
+                let mut texts = lines();
+                texts[0][0] ^= 1;
+                texts
+            })
+        }
+    }
+
+    #[test]
+    fn a_single_byte_is_noticed() {
+        let given = [
+            Given::Elf(images::elf(2, 100)),
+            Given::BzImage(images::bzimage(8 * 512 + 100)),
+            Given::Insertions(images::pairs(1, 2)),
+        ];
+        for given in given {
+            let work = Work {
+                name: "",
+                title: "",
+                given,
+            };
+            let wanted = work.outcome(&Plain);
+            assert!(work.outcome(&Library) == wanted);
+            assert!(work.outcome(&Spoilt) != wanted);
+        }
+    }
+}
