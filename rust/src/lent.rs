@@ -47,10 +47,10 @@ pub(crate) struct Options {
 }
 
 impl Options {
-    /// Where a segment for an address goes; one that passes 2^64 goes nowhere, and is told as the last address.
+    /// Where a segment for an address goes, if that fits into 64 bits.
     #[cfg(feature = "vm-memory")]
-    pub(crate) fn moved(&self, address: u64) -> u64 {
-        address.saturating_add(number(self.offset))
+    pub(crate) fn moved(&self, address: u64) -> Option<u64> {
+        address.checked_add(number(self.offset))
     }
 
     fn flags(&self) -> u32 {

@@ -6,6 +6,7 @@ use std::io::{self, Read, Seek};
 use vm_memory::bitmap::Bitmap;
 use vm_memory::{GuestMemoryBackend, GuestMemoryRegion, ReadVolatile};
 
+use super::written::{self, Part};
 use super::{bzimage, elf, put_line, BzImage, Cmdline, Elf, KernelLoaderResult, Result};
 use crate::lent::{Guest, Options};
 use crate::GuestAddress;
@@ -41,15 +42,10 @@ impl KernelLoader for Elf {
             offset: kernel_offset,
             highmem: highmem_start_address,
         };
-        // a refusal may come after some of the segments
-        let written: Vec<_> = elf::segments(&image)
-            .filter(elf::Segment::is_loadable)
-            .map(|segment| (options.moved(segment.p_paddr), segment.p_filesz))
-            .collect();
         lend(
             guest_mem,
             |guest| elf::load(guest, &image, options),
-            |_| written,
+            |answer, room| written::by_elf(answer, &image, options, room),
         )
     }
 }
@@ -75,17 +71,7 @@ impl KernelLoader for BzImage {
         lend(
             guest_mem,
             |guest| bzimage::load(guest, &image, options),
-            |answer| {
-                let kernels = answer.iter();
-                kernels
-                    .map(|kernel| {
-                        (
-                            kernel.kernel_load.0,
-                            kernel.kernel_end - kernel.kernel_load.0,
-                        )
-                    })
-                    .collect()
-            },
+            |answer, _| written::by_bzimage(answer),
         )
     }
 }
@@ -117,7 +103,7 @@ pub fn load_cmdline<M: GuestMemoryBackend>(
     lend(
         guest_mem,
         |guest| put_line(guest, guest_addr, cmdline),
-        |answer| answer.iter().map(|()| (guest_addr.0, length)).collect(),
+        |answer, _| answer.iter().map(|()| (guest_addr.0, length)).collect(),
     )
 }
 
@@ -128,11 +114,11 @@ fn rest_of(reader: &mut impl Read) -> io::Result<Vec<u8>> {
     Ok(bytes)
 }
 
-/// Lends the region at guest address 0 to a call, and tells the region's bitmap what the call wrote: addresses and lengths.
+/// Lends the region at guest address 0 to a call, and tells the region's bitmap what the call wrote, by its answer and the region's size.
 fn lend<M: GuestMemoryBackend, T>(
     guest_mem: &M,
     call: impl FnOnce(Guest) -> Result<T>,
-    written: impl FnOnce(&Result<T>) -> Vec<(u64, u64)>,
+    written: impl FnOnce(&Result<T>, u64) -> Vec<Part>,
 ) -> Result<T> {
     let region = guest_mem.find_region(GuestAddress(0));
     let Some(bytes) = region.and_then(|region| region.as_volatile_slice().ok()) else {
@@ -143,11 +129,9 @@ fn lend<M: GuestMemoryBackend, T>(
     // are guest memory, to which vm-memory gives nobody a reference. Whether the guest runs meanwhile is the monitor's affair, as it is
     // with vm-memory's own copies.
     let answer = call(unsafe { Guest::at(start.as_ptr(), bytes.len()) });
-    for (address, length) in written(&answer) {
-        let at = usize::try_from(address).map_or(bytes.len(), |address| address.min(bytes.len()));
-        let room = bytes.len() - at;
-        let count = usize::try_from(length).map_or(room, |length| length.min(room));
-        bytes.bitmap().mark_dirty(at, count);
+    for (address, length) in written(&answer, bytes.len() as u64) {
+        // both lie within the region, so they fit
+        bytes.bitmap().mark_dirty(address as usize, length as usize);
     }
     answer
 }

@@ -21,6 +21,8 @@ pub mod elf;
 #[cfg(feature = "vm-memory")]
 mod guest_memory;
 mod told;
+#[cfg(feature = "vm-memory")]
+mod written;
 
 pub use bzimage::*;
 pub use elf::*;
