@@ -1,4 +1,5 @@
-//! The C entry points of a load, made safe: what is lent lives through the call, and the outputs have the sizes that they must have.
+//! The C entry points of a load, made safe: what is lent lives through the call, and the outputs have the sizes that they must
+//! have.
 
 use std::marker::PhantomData;
 
@@ -28,7 +29,8 @@ impl Guest<'_> {
     ///
     /// # Safety
     ///
-    /// While the value lives, `length` bytes from `start` on can be read and written, and no reference of Rust's covers any of them.
+    /// While the value lives, `length` bytes from `start` on can be read and written, and no reference of Rust's covers any of
+    /// them.
     #[cfg(feature = "vm-memory")]
     pub(crate) unsafe fn at(start: *mut u8, length: usize) -> Self {
         Guest {

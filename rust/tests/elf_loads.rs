@@ -106,7 +106,8 @@ fn the_header_is_refused() {
     let whole = plain().bytes();
     load(&whole[..63], 32, None, None).is_refused(Error::ReadElfHeader, &[]);
     load(&[], 32, None, None).is_refused(Error::ReadElfHeader, &[]);
-    let edits: [(Error, fn(&mut ElfImage)); 5] = [
+    type Edit = fn(&mut ElfImage);
+    let edits: [(Error, Edit); 5] = [
         (Error::InvalidElfMagicNumber, |image| image.magic[3] = b'f'),
         (Error::BigEndianElfOnLittle, |image| image.encoding = 2),
         (Error::InvalidProgramHeaderSize, |image| {

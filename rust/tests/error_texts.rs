@@ -1,5 +1,5 @@
-//! The error enums have linux-loader's errors, no more and no fewer: each match here is without a rest. Their texts are linux-loader's
-//! too, so that a monitor's log stays as it was.
+//! The error enums have linux-loader's errors, no more and no fewer: each match here is without a rest. Their texts are
+//! linux-loader's too, so that a monitor's log stays as it was.
 
 use std::error::Error;
 

@@ -59,13 +59,13 @@ fn on(
 
 impl Called {
     #[track_caller]
-    fn gives(self, boot: &str, init: &str) {
+    fn gives(&self, boot: &str, init: &str) {
         assert_eq!(self.answer, Ok(()));
         assert_eq!(self.after, shown(boot, init, self.capacity));
     }
 
     #[track_caller]
-    fn is_refused(self, error: Error) {
+    fn is_refused(&self, error: Error) {
         assert_eq!(self.answer, Err(error));
         assert_eq!(self.after, self.before);
     }

@@ -1,5 +1,5 @@
-//! Loads over the guest memory of the crate vm-memory, with linux-loader's signatures. Guest memory is the region that begins at guest
-//! address 0: memory in other regions is no room.
+//! Loads over the guest memory of the crate vm-memory, with linux-loader's signatures. Guest memory is the region that begins at
+//! guest address 0: memory in other regions is no room.
 
 use std::io::{self, Read, Seek};
 
@@ -13,7 +13,10 @@ use crate::GuestAddress;
 
 /// How a kernel of some format is put into guest memory.
 pub trait KernelLoader {
-    /// Loads the whole of `kernel_image` into guest memory.
+    /// Loads the whole of `kernel_image` into guest memory: it is rewound and read to its end before anything is written.
+    ///
+    /// A reader that cannot be rewound is answered with `SeekElfStart` or `SeekBzImageHeader`, one that cannot be read with
+    /// `ReadKernelImage` or `ReadBzImageHeader`.
     fn load<F, M: GuestMemoryBackend>(
         guest_mem: &M,
         kernel_offset: Option<GuestAddress>,
@@ -114,7 +117,8 @@ fn rest_of(reader: &mut impl Read) -> io::Result<Vec<u8>> {
     Ok(bytes)
 }
 
-/// Lends the region at guest address 0 to a call, and tells the region's bitmap what the call wrote, by its answer and the region's size.
+/// Lends the region at guest address 0 to a call, and tells the region's bitmap what the call wrote, by its answer and the
+/// region's size.
 fn lend<M: GuestMemoryBackend, T>(
     guest_mem: &M,
     call: impl FnOnce(Guest) -> Result<T>,
@@ -125,9 +129,9 @@ fn lend<M: GuestMemoryBackend, T>(
         return call(Guest::from(&mut [][..]));
     };
     let start = bytes.ptr_guard_mut();
-    // SAFETY: the slice of the region says that these bytes can be read and written while the guard lives, which is past the call. They
-    // are guest memory, to which vm-memory gives nobody a reference. Whether the guest runs meanwhile is the monitor's affair, as it is
-    // with vm-memory's own copies.
+    // SAFETY: the slice of the region says that these bytes can be read and written while the guard lives, which is past the
+    // call. They are guest memory, to which vm-memory gives nobody a reference. Whether the guest runs meanwhile is the monitor's
+    // affair, as it is with vm-memory's own copies.
     let answer = call(unsafe { Guest::at(start.as_ptr(), bytes.len()) });
     for (address, length) in written(&answer, bytes.len() as u64) {
         // both lie within the region, so they fit

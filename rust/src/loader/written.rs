@@ -6,8 +6,8 @@ use crate::lent::Options;
 /// Bytes of guest memory: an address and how many from there on.
 pub(super) type Part = (u64, u64);
 
-/// What an ELF load into `room` bytes wrote: the segments before the header that it was refused for, and the segment that is refused for
-/// its end too.
+/// What an ELF load into `room` bytes wrote: the segments before the header that it was refused for, and the segment that is
+/// refused for its end too.
 pub(super) fn by_elf(
     answer: &Result<KernelLoaderResult>,
     image: &[u8],
