@@ -21,9 +21,18 @@ fn main() {
             "test_elfnote_8byte_align.bin",
             pvh.clone().edited(|header| header.p_align = 8),
         ),
-        ("test_bad_align.bin", pvh.edited(|header| header.p_align = 3)),
-        ("test_dummy_note.bin", with_notes(&note(b"GNU\0", 3, b"a build"))),
-        ("test_invalid_pvh_note.bin", with_notes(&note(b"Xen\0", 18, b""))),
+        (
+            "test_bad_align.bin",
+            pvh.edited(|header| header.p_align = 3),
+        ),
+        (
+            "test_dummy_note.bin",
+            with_notes(&note(b"GNU\0", 3, b"a build")),
+        ),
+        (
+            "test_invalid_pvh_note.bin",
+            with_notes(&note(b"Xen\0", 18, b"")),
+        ),
     ];
     for (name, image) in elf {
         write("elf", name, &image.bytes());

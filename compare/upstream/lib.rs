@@ -7,7 +7,7 @@ use rekusoyen::cmdline::Cmdline;
 pub mod cmdline;
 pub mod loader;
 
-/// One of the two texts of a line, as the line's debug form shows it. The tests read the published crate's private fields for them.
+/// One of the two texts of a line, as the line's debug form shows it. The published crate's tests read private fields for them.
 #[derive(Debug)]
 pub struct Shown(String);
 

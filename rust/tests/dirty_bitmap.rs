@@ -63,13 +63,15 @@ fn an_accepted_elf_load_marks_its_segments() {
     elf(one(), None, Ok(A + 3), &[(A, 3)]);
     elf(one(), Some(B - A), Ok(B + 3), &[(B, 3)]);
     let several = one()
-        // across the border of two pages
+        // across the border of two pages, with memory behind it that has no bytes
         .with(LOADABLE, B - 1, b"de")
-        // memory without bytes is not written, nor is what is not loaded
         .edited(|header| header.p_memsz = 0x1_0000)
-        .with(LOADABLE, C, b"")
-        .with(7, C, b"skipped");
-    elf(several, None, Ok(B - 1 + 0x1_0000), &[(A, 3), (B - 1, 2)]);
+        // what has no bytes is passed over, wherever it belongs, and so is what is not loaded
+        .with(LOADABLE, u64::MAX, b"")
+        .with(7, ROOM, b"skipped")
+        .with(LOADABLE, C, b"f");
+    let written: &[(u64, u64)] = &[(A, 3), (B - 1, 2), (C, 1)];
+    elf(several, None, Ok(C + 1), written);
 }
 
 #[test]
@@ -78,7 +80,8 @@ fn an_elf_load_refused_for_its_header_marks_nothing() {
     bad_magic.magic[0] = 0;
     let error = elf::Error::InvalidElfMagicNumber;
     elf(bad_magic, None, Err(error.into()), &[]);
-    elf(one(), Some(u64::MAX), Err(elf::Error::Overflow.into()), &[]);
+    let far_entry = ElfImage::entered_at(u64::MAX).with(LOADABLE, A, b"abc");
+    elf(far_entry, Some(1), Err(elf::Error::Overflow.into()), &[]);
     let mut no_headers = one();
     no_headers.e_phoff = u64::MAX;
     elf(
