@@ -272,8 +272,8 @@ impl Cmdline {
         told(number, "")
     }
 
-    /// The text of a virtio MMIO device, after the boot arguments: its size on the bus, its address, its interrupt, and its platform
-    /// device ID if it has one.
+    /// The text of a virtio MMIO device, after the boot arguments: its size on the bus, its address, its interrupt, and its
+    /// platform device ID if it has one.
     ///
     /// ```
     /// use rekusoyen::cmdline::{Cmdline, Error};

@@ -1,4 +1,5 @@
-//! The C entry points of a load, made safe: what is lent lives through the call, and the outputs have the sizes that they must have.
+//! The C entry points of a load, made safe: what is lent lives through the call, and the outputs have the sizes that they must
+//! have.
 
 use std::marker::PhantomData;
 
@@ -28,7 +29,8 @@ impl Guest<'_> {
     ///
     /// # Safety
     ///
-    /// While the value lives, `length` bytes from `start` on can be read and written, and no reference of Rust's covers any of them.
+    /// While the value lives, `length` bytes from `start` on can be read and written, and no reference of Rust's covers any of
+    /// them.
     #[cfg(feature = "vm-memory")]
     pub(crate) unsafe fn at(start: *mut u8, length: usize) -> Self {
         Guest {
@@ -47,10 +49,10 @@ pub(crate) struct Options {
 }
 
 impl Options {
-    /// Where a segment for an address goes; one that passes 2^64 goes nowhere, and is told as the last address.
+    /// Where a segment for an address goes, if that fits into 64 bits.
     #[cfg(feature = "vm-memory")]
-    pub(crate) fn moved(&self, address: u64) -> u64 {
-        address.saturating_add(number(self.offset))
+    pub(crate) fn moved(&self, address: u64) -> Option<u64> {
+        address.checked_add(number(self.offset))
     }
 
     fn flags(&self) -> u32 {

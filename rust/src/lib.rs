@@ -1,5 +1,5 @@
-//! A kernel loader that is proved, in the shape of the crate linux-loader 0.14.0: ELF images with their PVH note, bzImages, and the
-//! kernel command line.
+//! A kernel loader that is proved, in the shape of the crate linux-loader 0.14.0: ELF images with their PVH note, bzImages, and
+//! the kernel command line.
 //!
 //! The work is done by a library written in Rattle, every function of which is proved to meet its contract on every input; the
 //! repository around this crate has the code, the definitions and the proofs. This crate gives it linux-loader's module paths,
@@ -35,8 +35,8 @@
 //!
 //! # Where the answers differ from linux-loader's
 //!
-//! `docs/DIFFERENCES.md` of the repository has every difference. Most to be noticed: a command line's capacity is at most 4,096, and
-//! an image and guest memory have at most 2^40 bytes each.
+//! `docs/DIFFERENCES.md` of the repository has every difference. Most to be noticed: a command line's capacity is at most 4,096,
+//! and an image and guest memory have at most 2^40 bytes each.
 
 #[cfg(not(all(target_endian = "little", target_pointer_width = "64")))]
 compile_error!("the proved library is compiled for little-endian processors of 64 bits");

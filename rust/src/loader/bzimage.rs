@@ -57,9 +57,9 @@ impl std::error::Error for Error {}
 pub struct BzImage;
 
 impl BzImage {
-    /// Loads the kernel of a bzImage into guest memory, which begins at guest address 0. It goes to the offset if one is given, else
-    /// to the address that its setup header names. The header that is returned names the address where it went. A refusal changes
-    /// nothing.
+    /// Loads the kernel of a bzImage into guest memory, which begins at guest address 0. It goes to the offset if one is given,
+    /// else to the address that its setup header names. The header that is returned names the address where it went. A refusal
+    /// changes nothing.
     ///
     /// ```
     /// use rekusoyen::loader::bzimage::{BzImage, Error};

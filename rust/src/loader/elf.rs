@@ -126,8 +126,9 @@ fn pvh(code: u64, address: u64) -> PvhBootCapability {
 pub struct Elf;
 
 impl Elf {
-    /// Loads an image into guest memory, which begins at guest address 0. Each segment goes to its address, moved by the offset if
-    /// one is given; with an offset the PVH entry is ignored. A refusal leaves written the segments before the one it is about.
+    /// Loads an image into guest memory, which begins at guest address 0. Each segment goes to its address, moved by the offset
+    /// if one is given; with an offset the PVH entry is ignored. A refusal leaves written the segments before the one it is
+    /// about.
     ///
     /// ```
     /// use rekusoyen::loader::elf::{Elf, Error, PvhBootCapability};
@@ -235,8 +236,8 @@ impl Segment {
     }
 }
 
-/// The program headers that an image has, in file order, up to the first that passes its end. Nothing is tested: this is for showing
-/// what an image says, and a load takes its own way.
+/// The program headers that an image has, in file order, up to the first that passes its end. Nothing is tested: this is for
+/// showing what an image says, and a load takes its own way.
 ///
 /// ```
 /// use rekusoyen::loader::elf::segments;

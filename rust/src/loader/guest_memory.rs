@@ -1,5 +1,5 @@
-//! Loads over the guest memory of the crate vm-memory, with linux-loader's signatures. Guest memory is the region that begins at guest
-//! address 0: memory in other regions is no room.
+//! Loads over the guest memory of the crate vm-memory, with linux-loader's signatures. Guest memory is the region that begins at
+//! guest address 0: memory in other regions is no room.
 
 use std::io::{self, Read, Seek};
 
@@ -12,7 +12,10 @@ use crate::GuestAddress;
 
 /// How a kernel of some format is put into guest memory.
 pub trait KernelLoader {
-    /// Loads the whole of `kernel_image` into guest memory.
+    /// Loads the whole of `kernel_image` into guest memory: it is rewound and read to its end before anything is written.
+    ///
+    /// A reader that cannot be rewound is answered with `SeekElfStart` or `SeekBzImageHeader`, one that cannot be read with
+    /// `ReadKernelImage` or `ReadBzImageHeader`.
     fn load<F, M: GuestMemoryBackend>(
         guest_mem: &M,
         kernel_offset: Option<GuestAddress>,
@@ -41,15 +44,11 @@ impl KernelLoader for Elf {
             offset: kernel_offset,
             highmem: highmem_start_address,
         };
-        // a refusal may come after some of the segments
-        let written: Vec<_> = elf::segments(&image)
-            .filter(elf::Segment::is_loadable)
-            .map(|segment| (options.moved(segment.p_paddr), segment.p_filesz))
-            .collect();
         lend(
             guest_mem,
             |guest| elf::load(guest, &image, options),
-            |_| written,
+            // a refusal may come after some of them were written, and then too many are told
+            |_| segment_parts(&image, options),
         )
     }
 }
@@ -75,17 +74,7 @@ impl KernelLoader for BzImage {
         lend(
             guest_mem,
             |guest| bzimage::load(guest, &image, options),
-            |answer| {
-                let kernels = answer.iter();
-                kernels
-                    .map(|kernel| {
-                        (
-                            kernel.kernel_load.0,
-                            kernel.kernel_end - kernel.kernel_load.0,
-                        )
-                    })
-                    .collect()
-            },
+            |answer| answer.iter().map(kernel_part).collect(),
         )
     }
 }
@@ -128,26 +117,45 @@ fn rest_of(reader: &mut impl Read) -> io::Result<Vec<u8>> {
     Ok(bytes)
 }
 
-/// Lends the region at guest address 0 to a call, and tells the region's bitmap what the call wrote: addresses and lengths.
+/// A part of guest memory: an address, and how many bytes from there on.
+type Part = (u64, u64);
+
+/// Where the file bytes of an image's loadable segments go.
+fn segment_parts(image: &[u8], options: Options) -> Vec<Part> {
+    elf::segments(image)
+        .filter(elf::Segment::is_loadable)
+        .filter_map(|segment| Some((options.moved(segment.p_paddr)?, segment.p_filesz)))
+        .collect()
+}
+
+fn kernel_part(kernel: &KernelLoaderResult) -> Part {
+    let start = kernel.kernel_load.0;
+    (start, kernel.kernel_end - start)
+}
+
+/// Lends the region at guest address 0 to a call, and marks in the region's bitmap what the call wrote, by its answer. A part that is
+/// marked and was not written does no harm; one that was written and is not marked would.
 fn lend<M: GuestMemoryBackend, T>(
     guest_mem: &M,
     call: impl FnOnce(Guest) -> Result<T>,
-    written: impl FnOnce(&Result<T>) -> Vec<(u64, u64)>,
+    written: impl FnOnce(&Result<T>) -> Vec<Part>,
 ) -> Result<T> {
     let region = guest_mem.find_region(GuestAddress(0));
     let Some(bytes) = region.and_then(|region| region.as_volatile_slice().ok()) else {
         return call(Guest::from(&mut [][..]));
     };
     let start = bytes.ptr_guard_mut();
-    // SAFETY: the slice of the region says that these bytes can be read and written while the guard lives, which is past the call. They
-    // are guest memory, to which vm-memory gives nobody a reference. Whether the guest runs meanwhile is the monitor's affair, as it is
-    // with vm-memory's own copies.
+    // SAFETY: the slice of the region says that these bytes can be read and written while the guard lives, which is past the
+    // call. They are guest memory, to which vm-memory gives nobody a reference. Whether the guest runs meanwhile is the monitor's
+    // affair, as it is with vm-memory's own copies.
     let answer = call(unsafe { Guest::at(start.as_ptr(), bytes.len()) });
+    let size = bytes.len() as u64;
     for (address, length) in written(&answer) {
-        let at = usize::try_from(address).map_or(bytes.len(), |address| address.min(bytes.len()));
-        let room = bytes.len() - at;
-        let count = usize::try_from(length).map_or(room, |length| length.min(room));
-        bytes.bitmap().mark_dirty(at, count);
+        let room = size.saturating_sub(address);
+        // both are at most the region's size, which is a usize
+        bytes
+            .bitmap()
+            .mark_dirty(address.min(size) as usize, length.min(room) as usize);
     }
     answer
 }

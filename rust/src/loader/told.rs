@@ -1,5 +1,5 @@
-//! Which error stands for which refusal. Every refusal of a load has a row of its own, and an error without one is never given for
-//! the bytes that are lent: only a reader of vm-memory's that fails gives it.
+//! Which error stands for which refusal. Every refusal of a load has a row of its own. An error without a row is never given for
+//! the bytes that are lent: at most a reader of vm-memory's that fails gives it.
 
 use super::{bzimage, elf, Error};
 use crate::Refusal;

@@ -1,0 +1,257 @@
+//! ELF loads over slices: what is answered, and every byte of guest memory afterwards.
+
+mod images;
+
+use images::{
+    fresh, fresh_with, note, note_header, pvh_note, ElfImage, ProgramHeader, BODY, LOADABLE, NOTE,
+};
+use rekusoyen::loader::elf::{notes, segments, Elf, Error, Notes, PvhBootCapability, Segment};
+use rekusoyen::loader::{self, KernelLoaderResult};
+use rekusoyen::GuestAddress;
+use PvhBootCapability::{PvhEntryIgnored, PvhEntryNotPresent, PvhEntryPresent};
+
+/// A load that was made, and the guest memory that it left.
+struct Loaded {
+    answer: loader::Result<KernelLoaderResult>,
+    guest: Vec<u8>,
+}
+
+/// Loads an image into a number of guest bytes.
+fn load(image: &[u8], room: usize, offset: Option<u64>, highmem: Option<u64>) -> Loaded {
+    let mut guest = fresh(room);
+    let (offset, highmem) = (offset.map(GuestAddress), highmem.map(GuestAddress));
+    Loaded {
+        answer: Elf::load_into(&mut guest, offset, image, highmem),
+        guest,
+    }
+}
+
+impl Loaded {
+    #[track_caller]
+    fn gives(&self, load: u64, end: u64, pvh: PvhBootCapability, written: &[(usize, &[u8])]) {
+        let kernel = KernelLoaderResult {
+            kernel_load: GuestAddress(load),
+            kernel_end: end,
+            setup_header: None,
+            pvh_boot_cap: pvh,
+        };
+        assert_eq!(self.answer, Ok(kernel));
+        assert_eq!(self.guest, fresh_with(self.guest.len(), written));
+    }
+
+    #[track_caller]
+    fn is_refused(&self, error: impl Into<loader::Error>, written: &[(usize, &[u8])]) {
+        assert_eq!(self.answer, Err(error.into()));
+        assert_eq!(self.guest, fresh_with(self.guest.len(), written));
+    }
+}
+
+/// Three bytes for address 16, where the kernel is entered, and 8 bytes of memory.
+fn plain() -> ElfImage {
+    ElfImage::entered_at(16)
+        .with(LOADABLE, 16, b"abc")
+        .edited(|header| header.p_memsz = 8)
+}
+
+/// The same, edited.
+fn plain_but(edit: impl FnOnce(&mut ElfImage)) -> Vec<u8> {
+    let mut image = plain();
+    edit(&mut image);
+    image.bytes()
+}
+
+#[test]
+fn a_segment_goes_to_its_address_moved_by_the_offset() {
+    let image = plain().bytes();
+    load(&image, 32, None, None).gives(16, 24, PvhEntryIgnored, &[(16, b"abc")]);
+    load(&image, 32, Some(4), None).gives(20, 28, PvhEntryIgnored, &[(20, b"abc")]);
+    // the bytes need room, the rest of the memory does not
+    load(&image, 19, None, None).gives(16, 24, PvhEntryIgnored, &[(16, b"abc")]);
+    load(&image, 18, None, None).is_refused(Error::ReadKernelImage, &[]);
+    load(&image, 0, None, None).is_refused(Error::ReadKernelImage, &[]);
+}
+
+#[test]
+fn high_memory_is_compared_with_the_entry_before_the_offset() {
+    let image = plain().bytes();
+    load(&image, 32, None, Some(16)).gives(16, 24, PvhEntryIgnored, &[(16, b"abc")]);
+    load(&image, 32, None, Some(17)).is_refused(Error::InvalidEntryAddress, &[]);
+    load(&image, 32, Some(4), Some(17)).is_refused(Error::InvalidEntryAddress, &[]);
+}
+
+#[test]
+fn later_segments_cover_earlier_ones_and_the_greatest_end_counts() {
+    let image = ElfImage::entered_at(2)
+        .with(LOADABLE, 8, b"abcd")
+        .edited(|header| header.p_memsz = 20)
+        .with(LOADABLE, 10, b"xyz")
+        // no bytes: skipped, and its end does not count
+        .with(LOADABLE, 1 << 50, b"")
+        .edited(|header| header.p_memsz = u64::MAX)
+        // of no type that a load knows
+        .with(7, u64::MAX, b"skipped")
+        .bytes();
+    let written: &[(usize, &[u8])] = &[(8, b"ab"), (10, b"xyz")];
+    load(&image, 16, None, None).gives(2, 28, PvhEntryIgnored, written);
+}
+
+#[test]
+fn an_image_without_segments_is_accepted() {
+    let image = ElfImage::entered_at(5).bytes();
+    load(&image[..64], 0, None, None).gives(5, 0, PvhEntryIgnored, &[]);
+}
+
+#[test]
+fn the_header_is_refused() {
+    let whole = plain().bytes();
+    load(&whole[..63], 32, None, None).is_refused(Error::ReadElfHeader, &[]);
+    load(&[], 32, None, None).is_refused(Error::ReadElfHeader, &[]);
+    type Edit = fn(&mut ElfImage);
+    let edits: [(Error, Edit); 5] = [
+        (Error::InvalidElfMagicNumber, |image| image.magic[3] = b'f'),
+        (Error::BigEndianElfOnLittle, |image| image.encoding = 2),
+        (Error::InvalidProgramHeaderSize, |image| {
+            image.e_phentsize = 55
+        }),
+        (Error::InvalidProgramHeaderOffset, |image| {
+            image.e_phoff = 63
+        }),
+        (Error::ReadProgramHeader, |image| image.e_phoff = u64::MAX),
+    ];
+    for (error, edit) in edits {
+        load(&plain_but(edit), 32, None, None).is_refused(error, &[]);
+    }
+    load(&whole[..119], 32, None, None).is_refused(Error::ReadProgramHeader, &[]);
+    load(&whole, 32, Some(u64::MAX - 15), None).is_refused(Error::Overflow, &[]);
+}
+
+#[test]
+fn a_refused_segment_leaves_those_before_it() {
+    let first: &[(usize, &[u8])] = &[(16, b"abc")];
+    let edits: [fn(&mut ProgramHeader); 4] = [
+        |header| header.p_offset += 1,
+        |header| header.p_offset = u64::MAX,
+        |header| header.p_paddr = 30,
+        |header| header.p_paddr = u64::MAX,
+    ];
+    for edit in edits {
+        let image = plain().with(LOADABLE, 24, b"def").edited(edit);
+        load(&image.bytes(), 32, None, None).is_refused(Error::ReadKernelImage, first);
+    }
+    // the offset and the address pass 2^64, the offset and the entry do not
+    let image = plain()
+        .with(LOADABLE, u64::MAX - 3, b"def")
+        .with(LOADABLE, 24, b"ghi");
+    load(&image.bytes(), 32, Some(4), None)
+        .is_refused(Error::InvalidProgramHeaderAddress, &[(20, b"abc")]);
+}
+
+#[test]
+fn a_segment_refused_for_its_end_is_itself_written() {
+    let image = plain()
+        .with(LOADABLE, 24, b"def")
+        .edited(|header| header.p_memsz = u64::MAX - 23)
+        .with(LOADABLE, 28, b"ghi");
+    let written: &[(usize, &[u8])] = &[(16, b"abc"), (24, b"def")];
+    load(&image.bytes(), 32, None, None).is_refused(loader::Error::MemoryOverflow, written);
+}
+
+#[test]
+fn pvh_is_present_absent_or_ignored() {
+    let entry = PvhEntryPresent(GuestAddress(0x100000));
+    let other = note(b"GNU\0", 18, &[1, 2, 3, 4]);
+    let with = |notes: &[u8]| plain().with(NOTE, 0, notes);
+    let (some, none) = (with(&pvh_note(0x100000)), with(&other));
+    let written: &[(usize, &[u8])] = &[(16, b"abc")];
+    load(&some.bytes(), 32, None, None).gives(16, 24, entry, written);
+    load(&none.bytes(), 32, None, None).gives(16, 24, PvhEntryNotPresent, written);
+    load(&plain().bytes(), 32, None, None).gives(16, 24, PvhEntryIgnored, written);
+    // an offset, also of 0, has it ignored, and no note is walked
+    let broken = with(&note_header(u32::MAX, 0, 1));
+    for image in [&some, &none, &broken] {
+        load(&image.bytes(), 32, Some(0), None).gives(16, 24, PvhEntryIgnored, written);
+    }
+    // the last note header decides
+    let some_then_none = some.clone().with(NOTE, 0, &other);
+    let none_then_some = none.clone().with(NOTE, 0, &pvh_note(0x100000));
+    load(&some_then_none.bytes(), 32, None, None).gives(16, 24, PvhEntryNotPresent, written);
+    load(&none_then_some.bytes(), 32, None, None).gives(16, 24, entry, written);
+    // alignment is always 4, whatever the header says
+    let aligned = some.edited(|header| header.p_align = 3);
+    load(&aligned.bytes(), 32, None, None).gives(16, 24, entry, written);
+}
+
+#[test]
+fn a_refused_note_leaves_the_segments_before_it() {
+    let refused = [
+        (Error::ReadNoteHeader, pvh_note(1)[..19].to_vec()),
+        (Error::InvalidPvhNote, note(b"Xen\0", 18, &[1, 2, 3])),
+        (Error::Overflow, note_header(u32::MAX - 2, 0, 1)),
+        (Error::Overflow, note_header(0, u32::MAX - 2, 1)),
+    ];
+    for (error, bytes) in refused {
+        let mut image = plain().with(LOADABLE, 24, b"def").with(NOTE, 0, &bytes);
+        // the note's header comes before the second segment's, and the image ends with the note
+        image.headers.swap(1, 2);
+        load(&image.bytes(), 32, None, None).is_refused(error, &[(16, b"abc")]);
+    }
+}
+
+#[test]
+fn notes_are_walked_over_any_part_of_an_image() {
+    let found = |headers| Notes {
+        pvh_boot_cap: PvhEntryPresent(GuestAddress(7)),
+        headers,
+    };
+    let not_found = |headers| Notes {
+        pvh_boot_cap: PvhEntryNotPresent,
+        headers,
+    };
+    let other = note(b"other", 18, b"12345");
+    let behind = [other.clone(), pvh_note(7)].concat();
+    let size = behind.len() as u64;
+    assert_eq!(notes(&pvh_note(7), 0, 20), Ok(found(1)));
+    // a note that is begun is read to its end, which the image sets
+    assert_eq!(notes(&pvh_note(7), 0, 1), Ok(found(1)));
+    assert_eq!(notes(&pvh_note(7), 0, 0), Ok(not_found(0)));
+    assert_eq!(notes(&behind, 0, size), Ok(found(2)));
+    assert_eq!(notes(&behind, other.len() as u64, 1), Ok(found(1)));
+    assert_eq!(notes(&behind, 0, other.len() as u64), Ok(not_found(1)));
+    let refused = [
+        (Error::ReadNoteHeader, notes(&pvh_note(7)[..19], 0, 19)),
+        (Error::ReadNoteHeader, notes(&[], 0, 1)),
+        (Error::ReadNoteHeader, notes(&behind, u64::MAX, 1)),
+        (Error::InvalidPvhNote, notes(&note(b"Xen\0", 18, b""), 0, 1)),
+        (Error::Overflow, notes(&note_header(u32::MAX, 0, 0), 0, 1)),
+    ];
+    for (error, answer) in refused {
+        assert_eq!(answer, Err(error.into()));
+    }
+}
+
+#[test]
+fn segments_are_the_program_headers_that_the_image_has() {
+    let image = plain().with(NOTE, 9, &pvh_note(7));
+    let bytes = image.bytes();
+    let wanted: Vec<_> = image
+        .headers
+        .iter()
+        .map(|header| Segment {
+            p_type: header.p_type,
+            p_offset: header.p_offset,
+            p_paddr: header.p_paddr,
+            p_filesz: header.p_filesz,
+            p_memsz: header.p_memsz,
+        })
+        .collect();
+    assert_eq!(segments(&bytes).collect::<Vec<_>>(), wanted);
+    assert_eq!((wanted[0].p_offset, wanted[1].p_offset), (BODY, BODY + 3));
+    let kinds = segments(&bytes).map(|segment| (segment.is_loadable(), segment.is_note()));
+    assert_eq!(kinds.collect::<Vec<_>>(), [(true, false), (false, true)]);
+    // the second passes the end, then the first too; then there is no table, and no count
+    for (length, count) in [(176, 2), (175, 1), (119, 0), (63, 0), (57, 0), (0, 0)] {
+        assert_eq!(segments(&bytes[..length]).count(), count, "{length} bytes");
+    }
+    let far = plain_but(|image| image.e_phoff = u64::MAX);
+    assert_eq!(segments(&far).count(), 0);
+}

@@ -1,0 +1,263 @@
+//! A monitor's code over vm-memory, as it is written for linux-loader: only the names after `use` are other ones.
+
+mod images;
+
+use std::fs::File;
+use std::io::{self, Cursor, Read, Seek, SeekFrom, Write};
+
+use images::{fresh, fresh_with, pvh_note, BzImageFile, ElfImage, LOADABLE, NOTE};
+use rekusoyen::cmdline;
+use rekusoyen::loader::bootparam::setup_header;
+use rekusoyen::loader::{
+    self, bzimage, elf, load_cmdline, BzImage, Cmdline, Elf, KernelLoader, KernelLoaderResult,
+    PvhBootCapability,
+};
+use vm_memory::bitmap::BitmapSlice;
+use vm_memory::{
+    ByteValued, Bytes, GuestAddress, GuestMemoryBackend, GuestMemoryMmap, GuestMemoryRegion,
+    ReadVolatile, VolatileMemoryError, VolatileSlice,
+};
+
+const ROOM: usize = 0x4000;
+
+/// What keeps the monitor from starting a guest.
+#[derive(Debug, PartialEq)]
+enum StartError {
+    Kernel(loader::Error),
+    Line(cmdline::Error),
+}
+
+impl From<loader::Error> for StartError {
+    fn from(error: loader::Error) -> Self {
+        StartError::Kernel(error)
+    }
+}
+
+impl From<cmdline::Error> for StartError {
+    fn from(error: cmdline::Error) -> Self {
+        StartError::Line(error)
+    }
+}
+
+/// Loads a kernel, an ELF image or else a bzImage, and puts the command line beside it.
+fn start<M: GuestMemoryBackend, F: Read + ReadVolatile + Seek>(
+    memory: &M,
+    image: &mut F,
+    root: &str,
+) -> Result<KernelLoaderResult, StartError> {
+    let kernel = match Elf::load(memory, None, image, None) {
+        Err(loader::Error::Elf(elf::Error::InvalidElfMagicNumber)) => {
+            BzImage::load(memory, None, image, Some(GuestAddress(0x1000)))?
+        }
+        answer => answer?,
+    };
+    let mut line = Cmdline::new(64)?;
+    line.insert("root", root)?;
+    load_cmdline(memory, GuestAddress(0x2000), &line)?;
+    Ok(kernel)
+}
+
+fn elf_image() -> Vec<u8> {
+    ElfImage::entered_at(0x1000)
+        .with(LOADABLE, 0x1000, b"elf")
+        .with(NOTE, 0, &pvh_note(0x1002))
+        .bytes()
+}
+
+fn bzimage() -> Vec<u8> {
+    BzImageFile::loaded_at(0x1000, b"bzimage").bytes()
+}
+
+/// Guest memory of regions, none of whose bytes is zero.
+fn memory(regions: &[(u64, usize)]) -> GuestMemoryMmap {
+    let regions: Vec<_> = regions
+        .iter()
+        .map(|(address, size)| (GuestAddress(*address), *size))
+        .collect();
+    let memory = GuestMemoryMmap::from_ranges(&regions).unwrap();
+    for (address, size) in regions {
+        memory.write_slice(&fresh(size), address).unwrap();
+    }
+    memory
+}
+
+/// All the bytes of guest memory, region by region.
+fn content(memory: &GuestMemoryMmap) -> Vec<u8> {
+    let mut bytes = Vec::new();
+    for region in memory.iter() {
+        let mut part = vec![0; region.len() as usize];
+        memory.read_slice(&mut part, region.start_addr()).unwrap();
+        bytes.extend(part);
+    }
+    bytes
+}
+
+#[track_caller]
+fn starts<F: Read + ReadVolatile + Seek>(image: &mut F, kernel: &[u8]) -> KernelLoaderResult {
+    let memory = memory(&[(0, ROOM)]);
+    let result = start(&memory, image, "/dev/vda").unwrap();
+    let written: &[(usize, &[u8])] = &[(0x1000, kernel), (0x2000, b"root=/dev/vda\0")];
+    assert_eq!(content(&memory), fresh_with(ROOM, written));
+    result
+}
+
+/// The answers to the two images, from whatever they are read.
+#[track_caller]
+fn both_start<F: Read + ReadVolatile + Seek>(elf: &mut F, bzimage_file: &mut F) {
+    let kernel = starts(elf, b"elf");
+    let entry = PvhBootCapability::PvhEntryPresent(GuestAddress(0x1002));
+    assert_eq!(kernel.kernel_load, GuestAddress(0x1000));
+    assert_eq!((kernel.kernel_end, kernel.pvh_boot_cap), (0x1003, entry));
+    assert_eq!(kernel.setup_header, None);
+
+    let kernel = starts(bzimage_file, b"bzimage");
+    let header = kernel.setup_header.unwrap();
+    assert_eq!(kernel.kernel_load, GuestAddress(0x1000));
+    assert_eq!(
+        (kernel.kernel_end, { header.code32_start }),
+        (0x1007, 0x1000)
+    );
+    assert_eq!(kernel.pvh_boot_cap, PvhBootCapability::PvhEntryIgnored);
+}
+
+#[test]
+fn kernels_start_from_a_cursor() {
+    both_start(&mut Cursor::new(elf_image()), &mut Cursor::new(bzimage()));
+}
+
+#[test]
+fn kernels_start_from_a_file_wherever_it_stands() {
+    let path = std::env::temp_dir().join(format!("rekusoyen-monitor-{}", std::process::id()));
+    let [mut elf, mut bzimage] = [elf_image(), bzimage()].map(|image| {
+        let mut options = File::options();
+        let options = options.read(true).write(true).create(true).truncate(true);
+        let mut file = options.open(&path).unwrap();
+        // the open file lives on, and stands behind its last byte
+        std::fs::remove_file(&path).unwrap();
+        file.write_all(&image).unwrap();
+        file
+    });
+    both_start(&mut elf, &mut bzimage);
+}
+
+#[test]
+fn a_setup_header_goes_into_guest_memory_as_it_is() {
+    let memory = memory(&[(0, ROOM)]);
+    let image = bzimage();
+    let kernel = BzImage::load(&memory, None, &mut Cursor::new(&image), None).unwrap();
+    let header: setup_header = kernel.setup_header.unwrap();
+    memory.write_obj(header, GuestAddress(0x1f1)).unwrap();
+    assert_eq!(header.as_slice(), &image[0x1f1..0x1f1 + 123]);
+    assert_eq!(
+        content(&memory)[0x1f1..0x1f1 + 123],
+        image[0x1f1..0x1f1 + 123]
+    );
+}
+
+#[test]
+fn errors_reach_the_monitor() {
+    let memory = memory(&[(0, 0x2001)]);
+    let mut elf = Cursor::new(elf_image());
+    let refused = start(&memory, &mut elf, "a b");
+    assert_eq!(refused, Err(StartError::Line(cmdline::Error::NoQuoteSpace)));
+    let refused = start(&memory, &mut elf, "/dev/vda");
+    assert_eq!(
+        refused,
+        Err(StartError::Kernel(loader::Error::CommandLineOverflow))
+    );
+    // the kernel was loaded before
+    assert_eq!(content(&memory), fresh_with(0x2001, &[(0x1000, b"elf")]));
+    let refused = start(&memory, &mut Cursor::new([0u8; 64]), "/dev/vda");
+    let error = loader::Error::Bzimage(bzimage::Error::InvalidBzImage);
+    assert_eq!(refused, Err(StartError::Kernel(error)));
+    assert_eq!(content(&memory), fresh_with(0x2001, &[(0x1000, b"elf")]));
+}
+
+/// A reader of an image that fails at what it is told to fail at.
+struct Failing {
+    image: Cursor<Vec<u8>>,
+    at: Step,
+}
+
+#[derive(PartialEq)]
+enum Step {
+    Seek,
+    Read,
+}
+
+impl Failing {
+    fn comes_to(&self, step: Step) -> io::Result<()> {
+        if self.at == step {
+            return Err(io::Error::other("the disk is gone"));
+        }
+        Ok(())
+    }
+}
+
+impl Seek for Failing {
+    fn seek(&mut self, place: SeekFrom) -> io::Result<u64> {
+        self.comes_to(Step::Seek)?;
+        self.image.seek(place)
+    }
+}
+
+impl Read for Failing {
+    fn read(&mut self, bytes: &mut [u8]) -> io::Result<usize> {
+        self.comes_to(Step::Read)?;
+        self.image.read(bytes)
+    }
+}
+
+impl ReadVolatile for Failing {
+    fn read_volatile<B: BitmapSlice>(
+        &mut self,
+        bytes: &mut VolatileSlice<B>,
+    ) -> Result<usize, VolatileMemoryError> {
+        self.comes_to(Step::Read)
+            .map_err(VolatileMemoryError::IOError)?;
+        self.image.read_volatile(bytes)
+    }
+}
+
+#[test]
+fn a_reader_that_fails_has_its_own_error_and_nothing_is_written() {
+    let memory = memory(&[(0, ROOM)]);
+    let failing = |image, at| Failing {
+        image: Cursor::new(image),
+        at,
+    };
+    let elf = |at| Elf::load(&memory, None, &mut failing(elf_image(), at), None);
+    let bz = |at| BzImage::load(&memory, None, &mut failing(bzimage(), at), None);
+    assert_eq!(elf(Step::Seek), Err(elf::Error::SeekElfStart.into()));
+    assert_eq!(elf(Step::Read), Err(elf::Error::ReadKernelImage.into()));
+    assert_eq!(
+        bz(Step::Seek),
+        Err(bzimage::Error::SeekBzImageHeader.into())
+    );
+    assert_eq!(
+        bz(Step::Read),
+        Err(bzimage::Error::ReadBzImageHeader.into())
+    );
+    assert_eq!(content(&memory), fresh(ROOM));
+}
+
+#[test]
+fn only_the_region_at_0_is_room() {
+    let line = Cmdline::try_from("quiet", 10).unwrap();
+    // the kernels and the line begin in the first region and end in the second; then there is no first one
+    for regions in [&[(0, 0x1001), (0x1001, 0x1000)][..], &[(0x1000, 0x1000)]] {
+        let memory = memory(regions);
+        let elf = Elf::load(&memory, None, &mut Cursor::new(elf_image()), None);
+        assert_eq!(elf, Err(elf::Error::ReadKernelImage.into()));
+        let bz = BzImage::load(&memory, None, &mut Cursor::new(bzimage()), None);
+        assert_eq!(bz, Err(bzimage::Error::ReadBzImageCompressedKernel.into()));
+        let put = load_cmdline(&memory, GuestAddress(0x1000), &line);
+        assert_eq!(put, Err(loader::Error::CommandLineOverflow));
+        let size = regions.iter().map(|region| region.1).sum();
+        assert_eq!(content(&memory), fresh(size));
+    }
+    let memory = memory(&[(0, 0x1003), (0x2000, 0x1000)]);
+    let elf = Elf::load(&memory, None, &mut Cursor::new(elf_image()), None);
+    assert_eq!(elf.map(|kernel| kernel.kernel_end), Ok(0x1003));
+    assert_eq!(content(&memory), fresh_with(0x2003, &[(0x1000, b"elf")]));
+}

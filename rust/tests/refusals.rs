@@ -1,0 +1,206 @@
+//! Refusals and their numbers: each is reached by some call, or it is said why none reaches it.
+
+mod images;
+
+use images::{fresh, note, note_header, BzImageFile, ElfImage, LOADABLE, NOTE};
+use rekusoyen::cmdline::{self, Cmdline};
+use rekusoyen::loader::{self, bzimage, elf, load_cmdline_into, BzImage, Elf};
+use rekusoyen::{GuestAddress, Refusal};
+use vm_memory::MmapRegion;
+
+/// The safe functions lend lists that rise and outputs of the right size, so that nobody can be refused for them.
+const NEVER: [Refusal; 2] = [Refusal::BadList, Refusal::NoRoom];
+
+#[test]
+fn every_refusal_is_reached_and_has_its_number() {
+    let reached = [of_elf(), of_notes(), of_bzimage(), of_lines(), of_long()].concat();
+    for (refusal, number) in &reached {
+        assert_eq!(*number, Some(refusal.number()), "{refusal:?}");
+    }
+    for refusal in Refusal::ALL {
+        let is_reached = reached.iter().any(|row| row.0 == *refusal);
+        assert_eq!(is_reached, !NEVER.contains(refusal), "{refusal:?}");
+    }
+}
+
+/// The proved code has the table of numbers; the one here has the same names and numbers, in the same order.
+#[test]
+fn numbers_are_those_of_the_proved_code() {
+    let proved = include_str!("../../crates/answers/src/lib.rt").lines();
+    let proved: Vec<_> = proved
+        .filter_map(|line| line.trim().strip_prefix("Refusal::")?.strip_suffix(','))
+        .collect();
+    let here = Refusal::ALL.iter();
+    let here: Vec<_> = here
+        .map(|refusal| format!("{refusal:?} => {}", refusal.number()))
+        .collect();
+    assert_eq!(here, proved);
+}
+
+/// No bytes lead to these: a reader that fails does, or nothing at all.
+#[test]
+fn errors_without_a_number() {
+    for error in [
+        elf::Error::Align,
+        elf::Error::SeekElfStart,
+        elf::Error::SeekProgramHeader,
+        elf::Error::SeekNoteHeader,
+    ] {
+        assert_eq!(
+            (error.number(), loader::Error::from(error).refusal()),
+            (None, None)
+        );
+    }
+    for error in [
+        bzimage::Error::Overflow,
+        bzimage::Error::ReadBzImageHeader,
+        bzimage::Error::SeekBzImageEnd,
+        bzimage::Error::SeekBzImageHeader,
+    ] {
+        assert_eq!(
+            (error.number(), loader::Error::from(error).refusal()),
+            (None, None)
+        );
+    }
+}
+
+/// A refusal, and the number of the error that a call answered which is to be refused so.
+type Reached = Vec<(Refusal, Option<u32>)>;
+
+fn by_load<T>(answer: loader::Result<T>) -> Option<u32> {
+    answer.err()?.number()
+}
+
+fn by_line<T>(answer: cmdline::Result<T>) -> Option<u32> {
+    Some(answer.err()?.number())
+}
+
+fn of_elf() -> Reached {
+    let plain = ElfImage::entered_at(16).with(LOADABLE, 16, b"abc");
+    let edited = |edit: fn(&mut ElfImage)| {
+        let mut image = plain.clone();
+        edit(&mut image);
+        image.bytes()
+    };
+    let load = |image: &[u8], offset: Option<u64>, highmem: Option<u64>| {
+        let (offset, highmem) = (offset.map(GuestAddress), highmem.map(GuestAddress));
+        by_load(Elf::load_into(&mut fresh(32), offset, image, highmem))
+    };
+    let whole = plain.bytes();
+    let last = Some(u64::MAX);
+    vec![
+        (Refusal::InvalidElfMagicNumber, load(&[0; 64], None, None)),
+        (
+            Refusal::BigEndianElfOnLittle,
+            load(&edited(|i| i.encoding = 2), None, None),
+        ),
+        (
+            Refusal::InvalidProgramHeaderSize,
+            load(&edited(|i| i.e_phentsize = 0), None, None),
+        ),
+        (
+            Refusal::InvalidProgramHeaderOffset,
+            load(&edited(|i| i.e_phoff = 0), None, None),
+        ),
+        (Refusal::InvalidEntryAddress, load(&whole, None, last)),
+        (Refusal::Overflow, load(&whole, last, None)),
+        (Refusal::ReadElfHeader, load(&[], None, None)),
+        (Refusal::ReadProgramHeader, load(&whole[..64], None, None)),
+        (
+            Refusal::InvalidProgramHeaderAddress,
+            load(&edited(|i| i.e_entry = 0), last, None),
+        ),
+        (Refusal::ReadKernelImage, load(&whole, Some(32), None)),
+        (
+            Refusal::MemoryOverflow,
+            load(&edited(|i| i.headers[0].p_memsz = u64::MAX), None, None),
+        ),
+    ]
+}
+
+/// By the walk itself and by a load.
+fn of_notes() -> Reached {
+    let rows = [
+        (Refusal::Overflow, note_header(u32::MAX, 0, 0)),
+        (Refusal::ReadNoteHeader, note_header(4, 4, 18)),
+        (Refusal::InvalidPvhNote, note(b"Xen\0", 18, b"")),
+    ];
+    let walked = rows
+        .iter()
+        .map(|(refusal, bytes)| (*refusal, by_load(elf::notes(bytes, 0, 1))));
+    let loaded = rows.iter().map(|(refusal, bytes)| {
+        let image = ElfImage::entered_at(0).with(NOTE, 0, bytes).bytes();
+        (
+            *refusal,
+            by_load(Elf::load_into(&mut [], None, &image, None)),
+        )
+    });
+    walked.chain(loaded).collect()
+}
+
+fn of_bzimage() -> Reached {
+    let whole = BzImageFile::loaded_at(16, b"abc").bytes();
+    let load = |image: &[u8], highmem: Option<u64>| {
+        let highmem = highmem.map(GuestAddress);
+        by_load(BzImage::load_into(&mut fresh(18), None, image, highmem))
+    };
+    vec![
+        (Refusal::InvalidBzImage, load(&[], None)),
+        (Refusal::Underflow, load(&whole[..1023], None)),
+        (Refusal::InvalidKernelStartAddress, load(&whole, Some(17))),
+        (Refusal::ReadBzImageCompressedKernel, load(&whole, None)),
+    ]
+}
+
+fn of_lines() -> Reached {
+    let mut line = Cmdline::new(9).unwrap();
+    line.insert_init_args("z").unwrap();
+    let empty = Cmdline::new(1).unwrap();
+    let zero = Cmdline::try_from("\0", 9).unwrap();
+    let put = |line| by_load(load_cmdline_into(&mut [], GuestAddress(0), line));
+    vec![
+        (Refusal::InvalidCommandLine, put(&line)),
+        (Refusal::InvalidCommandLine, put(&zero)),
+        (Refusal::CommandLineOverflow, put(&empty)),
+        (Refusal::InvalidCapacity, by_line(Cmdline::new(0))),
+        (Refusal::InvalidCapacity, by_line(Cmdline::try_from("a", 1))),
+        (Refusal::InvalidAscii, by_line(line.insert_str("é"))),
+        (Refusal::HasSpace, by_line(line.insert(" ", ""))),
+        (Refusal::HasEquals, by_line(line.insert("=", ""))),
+        (Refusal::MissingVal, by_line(line.insert_multiple("a", &[]))),
+        (
+            Refusal::MmioSize,
+            by_line(line.add_virtio_mmio_device(0, GuestAddress(0), 0, None)),
+        ),
+        (Refusal::TooLarge, by_line(line.insert_str("abcd"))),
+        (Refusal::NoQuoteSpace, by_line(line.insert("a", " "))),
+        (Refusal::InvalidQuote, by_line(line.insert("a", "b\"c"))),
+        (Refusal::NoBootArgsInserted, by_line(line.as_cstring())),
+        (Refusal::NullTerminator, by_line(zero.as_cstring())),
+    ]
+}
+
+/// Slices of one byte more than 2^40. The memory is mapped and never touched, so that it costs nothing.
+fn of_long() -> Reached {
+    let map = || MmapRegion::<()>::new((1 << 40) + 1).expect("2^40 bytes of address space");
+    let (guest, image) = (map(), map());
+    // SAFETY: both are mapped to be read and written for as long as this function runs, and nobody else has them.
+    let (guest, image) = unsafe {
+        (
+            std::slice::from_raw_parts_mut(guest.as_ptr(), guest.size()),
+            std::slice::from_raw_parts(image.as_ptr(), image.size()),
+        )
+    };
+    let line = Cmdline::new(1).unwrap();
+    let answers = [
+        by_load(Elf::load_into(&mut [], None, image, None)),
+        by_load(Elf::load_into(guest, None, &[], None)),
+        by_load(elf::notes(image, 0, 0)),
+        by_load(BzImage::load_into(&mut [], None, image, None)),
+        by_load(BzImage::load_into(guest, None, &[], None)),
+        by_load(load_cmdline_into(guest, GuestAddress(0), &line)),
+    ];
+    answers
+        .map(|number| (Refusal::SliceTooLong, number))
+        .to_vec()
+}
