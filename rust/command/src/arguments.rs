@@ -8,7 +8,7 @@ use rekusoyen::GuestAddress;
 use crate::sizes;
 
 pub const HELP: &str = "\
-usage: rekusoyen                        load a small built-in image
+usage: rekusoyen                         load a small built-in image
        rekusoyen load [OPTIONS] < IMAGE  load an image from standard input
 
 Loads a kernel into guest memory, as a monitor would before it starts it, and
@@ -19,8 +19,8 @@ entry (pvh: an address, none, or ignored).
   --offset ADDRESS   ELF: move every segment by this; bzImage: load here
   --highmem ADDRESS  where high memory starts; a kernel below it is refused
   --cmdline TEXT     put this command line into guest memory, too
-  --at ADDRESS       where; at the kernel's end if not given
-  --format FORMAT    elf, bzimage, or auto, which is what is meant if not given
+  --at ADDRESS       and put it here; at the kernel's end if not given
+  --format FORMAT    elf, bzimage or auto; auto if not given
   --verbose          show each segment and note
   --help, --version
 

@@ -5,13 +5,22 @@ use std::io::{self, IsTerminal, Read, Write};
 /// How many bytes are read between two looks at the progress line.
 const PIECE: u64 = 1 << 20;
 
-/// All bytes of a reader. While a large image comes in, a line on standard error says how far it is, if somebody looks.
-pub fn image(mut reader: impl Read) -> io::Result<Vec<u8>> {
+/// No kernel is longer, and what never ends shall not take all memory.
+pub const LONGEST: usize = 4 << 30;
+
+/// All bytes of a reader, if they are no more than the longest. While a large image comes in, a line on standard error says how far it
+/// is, if somebody looks.
+pub fn image(mut reader: impl Read, longest: usize) -> io::Result<Vec<u8>> {
     let mut image = Vec::new();
     let watched = io::stderr().is_terminal();
     let mut shown = false;
     loop {
         let read = reader.by_ref().take(PIECE).read_to_end(&mut image)?;
+        if image.len() > longest {
+            return Err(io::Error::other(format!(
+                "it has more than {longest} bytes"
+            )));
+        }
         if (read as u64) < PIECE {
             break;
         }
@@ -59,8 +68,14 @@ mod tests {
             2 * PIECE as usize + 5,
         ] {
             let bytes: Vec<u8> = (0..length).map(|i| i as u8).collect();
-            assert_eq!(image(&bytes[..]).unwrap(), bytes);
+            assert_eq!(image(&bytes[..], length).unwrap(), bytes);
         }
+    }
+
+    #[test]
+    fn what_never_ends_is_given_up() {
+        let error = image(io::repeat(0), 5 << 20).unwrap_err();
+        assert_eq!(error.to_string(), "it has more than 5242880 bytes");
     }
 
     #[test]

@@ -72,7 +72,7 @@ fn from_input(asked: &Load) -> Result<String, Failure> {
             "the image comes by standard input: rekusoyen load < IMAGE".to_string(),
         ));
     }
-    let image = input::image(io::stdin().lock())
+    let image = input::image(io::stdin().lock(), input::LONGEST)
         .map_err(|error| Failure::Usage(format!("standard input cannot be read: {error}")))?;
     let mut guest = input::guest(asked.guest).ok_or_else(|| {
         Failure::Usage(format!(
