@@ -15,12 +15,9 @@ returns c =
 
 returns-2 : tie.Need-returns-2
 returns-2 c =
-    let at-text2 = c .before .before .before in
-    let at-if1 = at-text2 .before .before in
-    let start = at-if1 .before in
-    let args = start .args in
-    let text = at-text2 .text2 in
-    device-slug (args .self) (args .size) (args .baseaddr .0) (args .irq) (args .id) (at-if1 .if1 .left)
+    let args = c .before .before .before .before .before .before .args in
+    let text = c .before .before .before .text2 in
+    device-slug (args .self) (args .size) (args .baseaddr .0) (args .irq) (args .id) (c .before .before .before .before .before .if1 .left)
     (stored-text (omega (arith, text .ensures .1)) (text .ensures .0)) (c .insert-str .ensures)
 
 pub add-virtio-mmio-device-spec : {M : Type 1} → statement M

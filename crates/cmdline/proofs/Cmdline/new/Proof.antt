@@ -6,10 +6,7 @@ use Rattle.cmdline.proofs.Cmdline.new.Tie as tie
 
 returns : tie.Need-returns
 returns c =
-    let at-require = c .before .before .before in
-    let at-is-capacity = at-require .before in
-    let start = at-is-capacity .before in
-    new-reply (start .args .capacity) (at-is-capacity .is-capacity .ensures) (at-require .require .ensures) (c .before .before .blank-line .ensures)
+    new-reply (c .before .before .before .before .before .args .capacity) (c .before .before .before .before .is-capacity .ensures) (c .before .before .before .require .ensures) (c .before .before .blank-line .ensures)
     (c .before .blank-line2 .ensures) (c .settled .ensures)
 
 pub new-spec : {M : Type 1} → statement M

@@ -8,8 +8,7 @@ use Rattle.cmdline.proofs.digits.put_number.Tie as tie
 
 returns : tie.Need-returns
 returns c =
-    let at-spell = c .before .before .before .before .before .before in
-    let spelled = at-spell .spell in
+    let spelled = c .before .before .before .before .before .before .spell in
     stored-as (part-of (spelled .last .0) (spelled .result) 20 (spelled .ensures .1) ∙ spelled .ensures .2) (c .before .before .put .ensures)
 
 pub put-number-spec : {M : Type 1} → statement M

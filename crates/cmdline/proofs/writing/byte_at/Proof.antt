@@ -10,16 +10,13 @@ returns c = let args = c .before .before .args in at-boot (args .boot .now) (arg
 
 returns-2 : tie.Need-returns-2
 returns-2 c =
-    let at-if1 = c .before .before .before in
-    let start = at-if1 .before in
-    let args = start .args in
-    at-separator (args .boot .now) (args .init .now) (args .i) (start .pre) (at-if1 .if1 .left) (c .before .before .if2 .taken)
+    let args = c .before .before .before .before .args in
+    at-separator (args .boot .now) (args .init .now) (args .i) (c .before .before .before .before .pre) (c .before .before .before .if1 .left) (c .before .before .if2 .taken)
 
 returns-3 : tie.Need-returns-3
 returns-3 c =
-    let start = c .before .before .before in
-    let args = start .args in
-    at-init (args .boot .now) (args .init .now) (args .i) (start .pre) (c .before .before .if1 .left) (c .before .if2 .left)
+    let args = c .before .before .before .args in
+    at-init (args .boot .now) (args .init .now) (args .i) (c .before .before .before .pre) (c .before .before .if1 .left) (c .before .if2 .left)
 
 pub byte-at-spec : {M : Type 1} → statement M
 byte-at-spec =

@@ -4,23 +4,17 @@ use Rattle.cmdline.proofs.writing.same_answer.Statement.{statement}
 use Rattle.cmdline.proofs.writing.same_answer.Tie as tie
 
 returns : tie.Need-returns
-returns c =
-    let start = c .before .before .before .before in
-    let args = start .args in rw (c .before .before .enum-told .given .1, c .enum-told2 .given .1)
+returns c = let args = c .before .before .before .before .args in rw (c .before .before .enum-told .given .1, c .enum-told2 .given .1)
 
 returns-2 : tie.Need-returns-2
-returns-2 c =
-    let start = c .before .before .before .before in
-    let args = start .args in rw (c .before .before .enum-told .given .1, c .enum-told3 .given .1)
+returns-2 c = let args = c .before .before .before .before .args in rw (c .before .before .enum-told .given .1, c .enum-told3 .given .1)
 
 returns-3 : tie.Need-returns-3
 returns-3 c = rw (c .before .before .before .gate .given .1, c .enum-told4 .given .1)
 
 returns-4 : tie.Need-returns-4
 returns-4 c =
-    let at-other = c .before .before .before in
-    let at-gate = at-other .before .before .before in
-    rw (at-gate .gate .given .1, at-other .other .given .1, c .number2 .ensures, c .before .number .ensures)
+    rw (c .before .before .before .before .before .before .gate .given .1, c .before .before .before .other .given .1, c .number2 .ensures, c .before .number .ensures)
 
 pub same-answer-spec : {M : Type 1} → statement M
 same-answer-spec =

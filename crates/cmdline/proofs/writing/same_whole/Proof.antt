@@ -19,8 +19,7 @@ abbrev μ-loop : tie.MeasureT-loop
 
 returns : tie.Need-returns Inv-loop μ-loop
 returns c =
-    let start = c .before .before .before .before .before .before .before in
-    let args = start .args in
+    let args = c .before .before .before .before .before .before .before .args in
     sym (same-lengths (wholeOf (args .boot .now) (args .init .now)) (wholeOf (args .boot2 .now) (args .init2 .now))
     (λ e. c .if1 .taken (c .before .before .whole-len .ensures ∙ e ∙ sym (c .before .whole-len2 .ensures))))
 
