@@ -24,6 +24,11 @@ part-all-zero-end-2 c =
 
 returns : tie.Need-returns
 returns c =
+    let start = c .before .before .before .before .before .before .before .before .before .before .before .before .before .before .before .before .before .before .before .before .before .before .before in
+    let args = start .args in
+    let good = start .good .1 .0 in
+    let boot-long : length (args .line .boot) ≡ limit = search needs in
+    let init-long : length (args .line .init) ≡ limit = search needs in
     let at-require6 = c .before .before .before .before in
     let at-all-zero = at-require6 .before in
     let at-require5 = at-all-zero .before .before .before in
@@ -34,10 +39,7 @@ returns c =
     let at-require = at-require2 .before .before in
     let at-lesser2 = at-require .before .before .before .before in
     let at-lesser = at-lesser2 .before in
-    let start = at-lesser .before in
-    let args = start .args in
-    let good = start .good .1 .0 in
-    line-asked (args .gate) (args .line) (search needs) (search needs) (at-lesser .lesser .ensures) (at-lesser2 .lesser2 .ensures) (at-require .require .ensures) (at-require2 .require2 .ensures) (at-require3 .require3 .ensures)
+    line-asked (args .gate) (args .line) boot-long init-long (at-lesser .lesser .ensures) (at-lesser2 .lesser2 .ensures) (at-require .require .ensures) (at-require2 .require2 .ensures) (at-require3 .require3 .ensures)
     (at-require4 .require4 .ensures) (at-counted .counted .ensures) (at-require5 .require5 .ensures) (at-all-zero .all-zero .ensures) (at-require6 .require6 .ensures) (c .before .all-zero2 .ensures) (c .require7 .ensures)
 
 pub ask-spec : {M : Type 1} → statement M
