@@ -5,7 +5,7 @@ use mathlib.Core.Bool.{Bool, true}
 use mathlib.Core.List.{List, [], _∷_, _++_}
 use native.Mathlib.Omega.{arith}
 use lib.Dec.{leb}
-use lib.ListN.{length, length-append}
+use lib.ListN.{length, length-append, take}
 use lib.Seq.{sets, length-take-le}
 use borrow.Author.Tests.{leb-true}
 use Rattle.answers.specs.Tests.{Test, asked, askedAll, AllHold}
@@ -40,6 +40,22 @@ settles old new ts g next er eg en =
     ∙ ap (λ (x : Gate). settledReply x old next) eg
     ∙ ap (λ (x : Cmdline). record { answer = answerOf (askedAll Open ts); line = x }) (settled-as (askedAll Open ts) old (λ o. en (open-all ts o)))
 
+-- a buffer with s put after its text, where both have room: it holds the joined text, and the place after it is the text's length
+put-held : (buffer s d : List ℕ) (own n r : ℕ) → length buffer ≡ limit → n ≡ min own limit → length (joined (take (min own limit) buffer) s) ≤ limit
+    → Stored buffer n (spaceAfter n ++ s) d r
+    → (sets buffer 0 (joined (take (min own limit) buffer) s) ≡ d) × (min r limit ≡ length (joined (take (min own limit) buffer) s))
+put-held buffer s d own n r full en top w =
+    let text = take (min own limit) buffer in
+    let long : length text ≡ min own limit = length-take-le (min own limit) buffer (omega arith) in
+    let e : n ≡ length text = en ∙ sym long in
+    let bytes : d ≡ sets buffer (min own limit) (spaceAfter (length text) ++ s) =
+    w .bytes ∙ ap (λ (k : ℕ). sets buffer n (spaceAfter k ++ s)) e ∙ ap (λ (k : ℕ). sets buffer k (spaceAfter (length text) ++ s)) en in
+    let gap = ap (λ (k : ℕ). length (spaceAfter k ++ s)) e in
+    let whole = length-append text (spaceAfter (length text) ++ s) in
+    let place = w .place in
+    let count : r ≡ length (joined text s) = omega arith in
+    (sets-own buffer (spaceAfter (length text) ++ s) (min own limit) (omega arith) ∙ sym bytes, omega arith)
+
 module _ (l : Cmdline) (lb : length (l .boot) ≡ limit) (li : length (l .init) ≡ limit) where
   pub boot-long : length (textOf l .boot) ≡ min (l .boots) limit
   boot-long = length-take-le (min (l .boots) limit) (l .boot) (omega arith)
@@ -64,18 +80,8 @@ module _ (l : Cmdline) (lb : length (l .boot) ≡ limit) (li : length (l .init) 
       let fits : counted t + bootGap (length (t .boot)) + length s ≤ t .capacity = leb-true (counted t + bootGap (length (t .boot)) + length s) (t .capacity) room in
       let size : length (t .boot) + 1 ≤ counted t = size-boot (length (t .boot)) (length (t .init)) in
       let long : length (joined (t .boot) s) ≡ length (t .boot) + bootGap (length (t .boot)) + length s = joined-long (t .boot) s in
-      let top : length (joined (t .boot) s) ≤ limit = omega arith in
-      let e : n ≡ length (t .boot) = en ∙ sym boot-long in
-      let bytes : d ≡ sets (l .boot) (min (l .boots) limit) (spaceAfter (length (t .boot)) ++ s) =
-      w .bytes ∙ ap (λ (k : ℕ). sets (l .boot) n (spaceAfter k ++ s)) e ∙ ap (λ (k : ℕ). sets (l .boot) k (spaceAfter (length (t .boot)) ++ s)) en in
-      let text : sets (l .boot) 0 (joined (t .boot) s) ≡ d =
-      sets-own (l .boot) (spaceAfter (length (t .boot)) ++ s) (min (l .boots) limit) (omega arith) ∙ sym bytes in
-      let gap = ap (λ (k : ℕ). length (spaceAfter k ++ s)) e in
-      let whole = length-append (t .boot) (spaceAfter (length (t .boot)) ++ s) in
-      let place = w .place in
-      let count : r ≡ length (joined (t .boot) s) = omega arith in
-      let whole-place : min r limit ≡ length (joined (t .boot) s) = omega arith in
-      rw (text, sets-same (l .init) (min (l .inits) limit) (omega arith), init-long, whole-place)
+      let put = put-held (l .boot) s d (l .boots) n r lb en (omega arith) w in
+      rw (put .0, sets-same (l .init) (min (l .inits) limit) (omega arith), init-long, put .1)
 
   -- and with s put after its init text
   init-held : (s d : List ℕ) (n r : ℕ) → n ≡ min (l .inits) limit → initRoom (textOf l) (length s) ≡ true → Stored (l .init) n (spaceAfter n ++ s) d r
@@ -85,18 +91,8 @@ module _ (l : Cmdline) (lb : length (l .boot) ≡ limit) (li : length (l .init) 
       let fits : counted t + initGap (length (t .init)) + length s ≤ t .capacity = leb-true (counted t + initGap (length (t .init)) + length s) (t .capacity) room in
       let size : length (t .init) + bootGap (length (t .init)) ≤ counted t + initGap (length (t .init)) = init-asked (length (t .boot)) (length (t .init)) in
       let long : length (joined (t .init) s) ≡ length (t .init) + bootGap (length (t .init)) + length s = joined-long (t .init) s in
-      let top : length (joined (t .init) s) ≤ limit = omega arith in
-      let e : n ≡ length (t .init) = en ∙ sym init-long in
-      let bytes : d ≡ sets (l .init) (min (l .inits) limit) (spaceAfter (length (t .init)) ++ s) =
-      w .bytes ∙ ap (λ (k : ℕ). sets (l .init) n (spaceAfter k ++ s)) e ∙ ap (λ (k : ℕ). sets (l .init) k (spaceAfter (length (t .init)) ++ s)) en in
-      let text : sets (l .init) 0 (joined (t .init) s) ≡ d =
-      sets-own (l .init) (spaceAfter (length (t .init)) ++ s) (min (l .inits) limit) (omega arith) ∙ sym bytes in
-      let gap = ap (λ (k : ℕ). length (spaceAfter k ++ s)) e in
-      let whole = length-append (t .init) (spaceAfter (length (t .init)) ++ s) in
-      let place = w .place in
-      let count : r ≡ length (joined (t .init) s) = omega arith in
-      let whole-place : min r limit ≡ length (joined (t .init) s) = omega arith in
-      rw (text, sets-same (l .boot) (min (l .boots) limit) (omega arith), boot-long, whole-place)
+      let put = put-held (l .init) s d (l .inits) n r li en (omega arith) w in
+      rw (put .0, sets-same (l .boot) (min (l .boots) limit) (omega arith), boot-long, put .1)
 
   -- ---- a slug, as the code works it out: trimmed, asked, put
   module _ (slug s : List ℕ) (trimmed : s ≡ trim slug) {a b : Bool} {g h : Gate} {d : List ℕ} {n r : ℕ} {next : Cmdline} {reply : Reply}

@@ -7,14 +7,20 @@ use Rattle.capi.proofs.rekusoyen_elf_load.Tie as tie
 
 returns : tie.Need-returns
 returns c =
-    let args = c .before .before .before .before .before .args in
+    let start = c .before .before .before .before .before in
+    let args = start .args in
     elf-unsized (args .image .now) (offsetOf (args .flags) (args .offset)) (highmemOf (args .flags) (args .highmem)) (args .guest .now) (args .out .now) (c .before .if1 .taken) (c .number .ensures)
 
 returns-2 : tie.Need-returns-2
 returns-2 c =
-    let args = c .before .before .before .before .before .before .before .before .before .before .before .before .before .before .args in
-    elf-sized (args .image .now) (offsetOf (args .flags) (args .offset)) (highmemOf (args .flags) (args .highmem)) (args .guest .now) (args .out .now) (c .before .before .before .before .before .before .before .before .before .before .if1 .left) (c .before .before .before .before .before .before .before .before .before .offset .ensures)
-    (c .before .before .before .before .before .before .before .before .highmem .ensures) (c .before .before .before .before .before .before .load .ensures) (c .before .before .load2 .ensures)
+    let at-load = c .before .before .before .before .before .before in
+    let at-highmem = at-load .before .before in
+    let at-offset = at-highmem .before in
+    let at-if1 = at-offset .before in
+    let start = at-if1 .before .before .before .before in
+    let args = start .args in
+    elf-sized (args .image .now) (offsetOf (args .flags) (args .offset)) (highmemOf (args .flags) (args .highmem)) (args .guest .now) (args .out .now) (at-if1 .if1 .left) (at-offset .offset .ensures)
+    (at-highmem .highmem .ensures) (at-load .load .ensures) (c .before .before .load2 .ensures)
 
 pub rekusoyen-elf-load-spec : {M : Type 1} → statement M
 rekusoyen-elf-load-spec =

@@ -11,27 +11,48 @@ use Rattle.bzimage.proofs.plan.validate.Tie as tie
 returns : tie.Need-returns
 unfolding gateOf
 returns c =
-    let image = c .before .before .before .before .before .before .before .before .before .before .before .before .before .before .before .before .before .before .before .before .before .before .before .before .args .image .now in
-    let magic-read = field-read headerMagic image (c .before .before .before .before .before .before .before .before .before .before .before .before .before .before .before .before .before .before .before .before .before .before .place .ensures ∙ at-header) (c .before .before .before .before .before .before .before .before .before .before .before .before .before .before .before .before .before .before .before .before .before .read-u32 .ensures) in
-    let version-read = field-read version image (c .before .before .before .before .before .before .before .before .before .before .before .before .before .before .before .before .before .before .before .before .place2 .ensures ∙ at-version) (c .before .before .before .before .before .before .before .before .before .before .before .before .before .before .before .before .before .before .before .read-u16 .ensures) in
-    let flags-read = byte-read loadflags image (c .before .before .before .before .before .before .before .before .before .before .before .before .before .before .before .before .before .before .place3 .ensures ∙ at-loadflags) (c .before .before .before .before .before .before .before .before .before .before .before .before .before .before .before .before .before .byte-at .ensures) in
+    let at-amount = c .before .before .before in
+    let at-require6 = at-amount .before in
+    let at-require5 = at-require6 .before in
+    let at-require4 = at-require5 .before in
+    let at-require3 = at-require4 .before in
+    let at-require2 = at-require3 .before in
+    let at-is-allowed2 = at-require2 .before in
+    let at-require = at-is-allowed2 .before in
+    let at-is-allowed = at-require .before in
+    let at-room-for = at-is-allowed .before in
+    let at-kernel-size = at-room-for .before in
+    let at-given-or = at-kernel-size .before in
+    let at-code32-start = at-given-or .before in
+    let at-setup-size = at-code32-start .before in
+    let at-byte-at = at-setup-size .before in
+    let at-place3 = at-byte-at .before in
+    let at-read-u16 = at-place3 .before in
+    let at-place2 = at-read-u16 .before in
+    let at-read-u32 = at-place2 .before in
+    let at-place = at-read-u32 .before in
+    let start = at-place .before .before in
+    let image = start .args .image .now in
+    let magic-read = field-read headerMagic image (at-place .place .ensures ∙ at-header) (at-read-u32 .read-u32 .ensures) in
+    let version-read = field-read version image (at-place2 .place2 .ensures ∙ at-version) (at-read-u16 .read-u16 .ensures) in
+    let flags-read = byte-read loadflags image (at-place3 .place3 .ensures ∙ at-loadflags) (at-byte-at .byte-at .ensures) in
     rw (
       c .require8 .ensures,
       c .before .require7 .ensures,
-      c .before .before .before .amount .ensures,
-      c .before .before .before .before .require6 .ensures,
-      c .before .before .before .before .before .require5 .ensures,
-      c .before .before .before .before .before .before .require4 .ensures,
-      c .before .before .before .before .before .before .before .require3 .ensures,
-      c .before .before .before .before .before .before .before .before .require2 .ensures,
-      c .before .before .before .before .before .before .before .before .before .is-allowed2 .ensures,
-      c .before .before .before .before .before .before .before .before .before .before .require .ensures,
-      c .before .before .before .before .before .before .before .before .before .before .before .is-allowed .ensures,
-      c .before .before .before .before .before .before .before .before .before .before .before .before .room-for .ensures,
-      c .before .before .before .before .before .before .before .before .before .before .before .before .before .kernel-size .ensures,
-      c .before .before .before .before .before .before .before .before .before .before .before .before .before .before .given-or .ensures,
-      c .before .before .before .before .before .before .before .before .before .before .before .before .before .before .before .code32-start .ensures,
-      c .before .before .before .before .before .before .before .before .before .before .before .before .before .before .before .before .setup-size .ensures,
+      at-amount .amount .ensures,
+      at-require6 .require6 .ensures,
+      at-require5 .require5 .ensures,
+      at-require4 .require4 .ensures,
+      at-require3 .require3 .ensures,
+      at-require2 .require2 .ensures,
+      at-is-allowed2 .is-allowed2 .ensures,
+      at-require .require .ensures,
+      at-is-allowed .is-allowed .ensures,
+      at-room-for .room-for .ensures,
+      at-kernel-size .kernel-size .ensures,
+      at-given-or .given-or .ensures,
+      at-code32-start .code32-start .ensures,
+      at-setup-size .setup-size .ensures,
       flags-read,
       version-read,
       magic-read,

@@ -11,15 +11,23 @@ use Rattle.capi.proofs.lines.put_line.Tie as tie
 
 slice-aggregate-put-5 : tie.Need-slice-aggregate-put-5
 slice-aggregate-put-5 c =
-    let good = c .before .before .before .before .before .before .before .before .before .before .before .before .before .before .before .before .before .before .before .before .before .before .before .before .before .before .before .before .good .1 .0 in
-    let long : length (c .before .before .before .before .before .before .before .before .before .before .before .before .before .before .before .before .before .before .before .before .before .before .before .before .before .before .before .before .args .line .init) ≡ limit = search needs in
+    let start = c .before .before .before .before .before .before .before .before .before .before .before .before .before .before .before .before .before .before .before .before .before .before .before .before .before .before .before .before in
+    let good = start .good .1 .0 in
+    let long : length (start .args .line .init) ≡ limit = search needs in
     omega (arith, long)
 
 returns : tie.Need-returns
 unfolding bytesOfLine
 returns c =
-    let numbers = then (then (stored-as (c .before .before .before .before .before .before .before .before .before .before .before .before .before .before .before .before .before .before .before .before .before .before .before .before .before .before .before .before .before .bytes-of .ensures) (c .before .before .before .before .before .before .before .before .before .before .before .before .before .before .before .before .before .before .before .before .before .before .put .ensures)) (stored-as (c .before .before .before .before .before .before .before .before .before .before .before .before .before .before .before .before .before .before .before .before .before .before .before .before .before .before .before .before .bytes-of2 .ensures) (c .before .before .before .before .before .before .before .before .before .before .before .before .before .before .before .before .before .put2 .ensures))) (stored-as (c .before .before .before .before .before .before .before .before .before .before .before .before .before .before .before .before .before .before .before .before .before .before .before .before .before .before .before .bytes-of3 .ensures) (c .before .before .before .before .before .before .before .before .before .before .before .before .put3 .ensures)) in
-    then (then numbers (c .before .before .before .before .before .before .before .put4 .ensures)) (c .before .before .put5 .ensures) .bytes
+    let at-put4 = c .before .before .before .before .before .before .before in
+    let at-put3 = at-put4 .before .before .before .before .before in
+    let at-put2 = at-put3 .before .before .before .before .before in
+    let at-put = at-put2 .before .before .before .before .before in
+    let at-bytes-of3 = at-put .before .before .before .before .before in
+    let at-bytes-of2 = at-bytes-of3 .before in
+    let at-bytes-of = at-bytes-of2 .before in
+    let numbers = then (then (stored-as (at-bytes-of .bytes-of .ensures) (at-put .put .ensures)) (stored-as (at-bytes-of2 .bytes-of2 .ensures) (at-put2 .put2 .ensures))) (stored-as (at-bytes-of3 .bytes-of3 .ensures) (at-put3 .put3 .ensures)) in
+    then (then numbers (at-put4 .put4 .ensures)) (c .before .before .put5 .ensures) .bytes
 
 pub put-line-spec : {M : Type 1} → statement M
 put-line-spec =

@@ -19,23 +19,35 @@ use Rattle.cmdline.proofs.Cmdline.insert.Tie as tie
 
 put-pair-requires : tie.Need-put-pair-requires
 put-pair-requires c κs =
-    let args = c .before .before .before .before .before .before .before .before .before .before .before .before .args in
+    let start = c .before .before .before .before .before .before .before .before .before .before .before .before in
+    let args = start .args in
     let long : length (args .self .boot) ≡ limit = search needs in
     omega (arith, c .lesser .ensures)
 
 returns : tie.Need-returns
 unfolding insert
 returns c =
-    let args = c .before .before .before .before .before .before .before .before .before .before .before .before .before .before .before .before .args in
-    let good = c .before .before .before .before .before .before .before .before .before .before .before .before .before .before .before .before .good .0 in
+    let start = c .before .before .before .before .before .before .before .before .before .before .before .before .before .before .before .before in
+    let args = start .args in
+    let good = start .good .0 in
+    let boot-long : length (args .self .boot) ≡ limit = search needs in
+    let init-long : length (args .self .init) ≡ limit = search needs in
+    let at-put-pair = c .before .before .before in
+    let at-lesser = at-put-pair .before in
+    let at-require = at-lesser .before .before .before .before in
+    let at-boot-room = at-require .before in
+    let at-sum2 = at-boot-room .before in
+    let at-sum = at-sum2 .before in
+    let at-ask2 = at-sum .before in
+    let at-ask = at-ask2 .before in
     let key = args .key .now in
     let value = args .value .now in
-    let count = c .before .before .before .before .before .before .before .before .before .before .sum2 .ensures in
-    let first = c .before .before .before .before .before .before .before .before .before .before .before .sum .ensures in
-    slug-reply (args .self) (search needs) (search needs) (keyTests key ++ valueTests value) (pair key value) (pair-told key value)
-    (c .before .before .before .before .before .before .before .before .before .before .before .before .ask2 .ensures ∙ ap (λ g. askedAll g (valueTests value)) (c .before .before .before .before .before .before .before .before .before .before .before .before .before .ask .ensures) ∙ sym (all-append Open (keyTests key) (valueTests value)))
+    let count = at-sum2 .sum2 .ensures in
+    let first = at-sum .sum .ensures in
+    slug-reply (args .self) boot-long init-long (keyTests key ++ valueTests value) (pair key value) (pair-told key value)
+    (at-ask2 .ask2 .ensures ∙ ap (λ g. askedAll g (valueTests value)) (at-ask .ask .ensures) ∙ sym (all-append Open (keyTests key) (valueTests value)))
     (λ hold. let long = length-append key (equals ∷ value) in omega arith)
-    (c .before .before .before .before .before .before .before .before .before .boot-room .ensures) (c .before .before .before .before .before .before .before .before .require .ensures) (c .before .before .before .before .lesser .ensures) (c .before .before .before .put-pair .ensures) (c .before .clamped .ensures) (c .settled .ensures)
+    (at-boot-room .boot-room .ensures) (at-require .require .ensures) (at-lesser .lesser .ensures) (at-put-pair .put-pair .ensures) (c .before .clamped .ensures) (c .settled .ensures)
 
 pub insert-spec : {M : Type 1} → statement M
 insert-spec =

@@ -10,17 +10,28 @@ use Rattle.cmdline.proofs.Cmdline.insert_str.Tie as tie
 
 put-after-requires : tie.Need-put-after-requires
 put-after-requires c κs =
-    let args = c .before .before .before .before .before .before .before .before .before .before .args in
+    let start = c .before .before .before .before .before .before .before .before .before .before in
+    let args = start .args in
     let long : length (args .self .boot) ≡ limit = search needs in
     omega (arith, c .lesser .ensures)
 
 returns : tie.Need-returns
 returns c =
-    let args = c .before .before .before .before .before .before .before .before .before .before .before .before .before .before .args in
-    let good = c .before .before .before .before .before .before .before .before .before .before .before .before .before .before .good .0 in
-    str-reply (args .self) (search needs) (search needs) (args .slug .now) (c .before .before .before .before .before .before .before .before .before .before .before .before .trimmed .result .now) (c .before .before .before .before .before .before .before .before .before .before .before .before .trimmed .ensures)
-    (c .before .before .before .before .before .before .before .before .before .before .before .all-printable .ensures) (c .before .before .before .before .before .before .before .before .before .before .require .ensures) (c .before .before .before .before .before .before .before .before .require2 .ensures) (c .settled .ensures)
-    (c .before .before .before .before .before .before .before .before .before .boot-room .ensures) (c .before .before .before .before .lesser .ensures) (c .before .before .before .put-after .ensures) (c .before .clamped .ensures)
+    let start = c .before .before .before .before .before .before .before .before .before .before .before .before .before .before in
+    let args = start .args in
+    let good = start .good .0 in
+    let boot-long : length (args .self .boot) ≡ limit = search needs in
+    let init-long : length (args .self .init) ≡ limit = search needs in
+    let at-put-after = c .before .before .before in
+    let at-lesser = at-put-after .before in
+    let at-require2 = at-lesser .before .before .before .before in
+    let at-boot-room = at-require2 .before in
+    let at-require = at-boot-room .before in
+    let at-all-printable = at-require .before in
+    let at-trimmed = at-all-printable .before in
+    str-reply (args .self) boot-long init-long (args .slug .now) (at-trimmed .trimmed .result .now) (at-trimmed .trimmed .ensures)
+    (at-all-printable .all-printable .ensures) (at-require .require .ensures) (at-require2 .require2 .ensures) (c .settled .ensures)
+    (at-boot-room .boot-room .ensures) (at-lesser .lesser .ensures) (at-put-after .put-after .ensures) (c .before .clamped .ensures)
 
 pub insert-str-spec : {M : Type 1} → statement M
 insert-str-spec =

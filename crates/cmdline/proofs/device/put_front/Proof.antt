@@ -7,9 +7,15 @@ use Rattle.cmdline.proofs.device.put_front.Tie as tie
 
 returns : tie.Need-returns
 returns c =
-    let args = c .before .before .before .before .before .before .before .before .before .before .before .before .before .before .before .before .before .before .before .before .before .before .before .before .before .before .before .before .args in
-    let upto = then (then (then (c .before .before .before .before .before .before .before .before .before .before .before .before .before .before .before .before .before .before .before .before .before .before .before .before .put .ensures) (c .before .before .before .before .before .before .before .before .before .before .before .before .before .before .before .before .before .before .before .before .put-size .ensures)) (c .before .before .before .before .before .before .before .before .before .before .before .before .before .before .before .put2 .ensures)) (c .before .before .before .before .before .before .before .before .before .before .before .put-number .ensures) in
-    stored-as (front-parts (args .size) (args .baseaddr) (args .irq)) (then (then upto (c .before .before .before .before .before .before .put3 .ensures)) (c .before .before .put-number2 .ensures))
+    let at-put3 = c .before .before .before .before .before .before in
+    let at-put-number = at-put3 .before .before .before .before .before in
+    let at-put2 = at-put-number .before .before .before .before in
+    let at-put-size = at-put2 .before .before .before .before .before in
+    let at-put = at-put-size .before .before .before .before in
+    let start = at-put .before .before .before .before in
+    let args = start .args in
+    let upto = then (then (then (at-put .put .ensures) (at-put-size .put-size .ensures)) (at-put2 .put2 .ensures)) (at-put-number .put-number .ensures) in
+    stored-as (front-parts (args .size) (args .baseaddr) (args .irq)) (then (then upto (at-put3 .put3 .ensures)) (c .before .before .put-number2 .ensures))
 
 pub put-front-spec : {M : Type 1} → statement M
 put-front-spec =

@@ -7,13 +7,18 @@ use Rattle.cmdline.proofs.device.put_id.Statement.{statement}
 use Rattle.cmdline.proofs.device.put_id.Tie as tie
 
 returns : tie.Need-returns
-returns c = id-none (c .before .before .before .args .id) (c .enum-told .given .1) (c .before .before .before .pre)
+returns c =
+    let start = c .before .before .before in
+    id-none (start .args .id) (c .enum-told .given .1) (start .pre)
 
 returns-2 : tie.Need-returns-2
 returns-2 c =
-    let number = c .before .before .before .before .before .before .before .before .before .before .id .given in
+    let at-put = c .before .before .before .before .before .before in
+    let at-id = at-put .before .before .before .before in
+    let start = at-id .before .before .before in
+    let number = at-id .id .given in
     let small : number .0 .0 < 2 ^ 32 = search needs in
-    id-number (c .before .before .before .before .before .before .before .before .before .before .before .before .before .args .id) (number .0 .0) (number .1) small (then (c .before .before .before .before .before .before .put .ensures) (c .before .before .put-number .ensures))
+    id-number (start .args .id) (number .0 .0) (number .1) small (then (at-put .put .ensures) (c .before .before .put-number .ensures))
 
 pub put-id-spec : {M : Type 1} → statement M
 put-id-spec =

@@ -9,11 +9,13 @@ use Rattle.cmdline.proofs.device.text.Tie as tie
 
 returns : tie.Need-returns
 returns c =
-    let args = c .before .before .before .before .before .before .before .before .before .args in
-    let fits = c .before .before .before .before .before .before .before .before .before .fits in
+    let at-put-front = c .before .before .before .before .before .before in
+    let start = at-put-front .before .before .before in
+    let args = start .args in
+    let fits = start .fits in
     let few = front-few (args .size) (args .baseaddr) (args .irq) (fits .size .fits) (fits .baseaddr .fits) (fits .irq .fits) in
     let end = c .before .before .put-id .ensures .1 in
-    (then (c .before .before .before .before .before .before .put-front .ensures) (c .before .before .put-id .ensures .0), simp length-append (omega arith))
+    (then (at-put-front .put-front .ensures) (c .before .before .put-id .ensures .0), simp length-append (omega arith))
 
 pub text-spec : {M : Type 1} → statement M
 text-spec =

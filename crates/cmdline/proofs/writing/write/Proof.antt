@@ -11,15 +11,23 @@ use Rattle.cmdline.proofs.writing.write.Tie as tie
 
 returns : tie.Need-returns
 returns c =
-    let args = c .before .before .before .before .before .before .before .before .before .before .before .before .before .args in
-    let stored = then (c .before .before .before .before .before .before .before .before .put .ensures) (c .before .before .put2 .ensures) in
-    stored .bytes ∙ rw (whole-none (args .boot .now) (args .init .now) (c .before .before .before .before .before .if1 .taken))
+    let at-if1 = c .before .before .before .before .before in
+    let at-put = at-if1 .before .before .before in
+    let start = at-put .before .before .before .before .before in
+    let args = start .args in
+    let stored = then (at-put .put .ensures) (c .before .before .put2 .ensures) in
+    stored .bytes ∙ rw (whole-none (args .boot .now) (args .init .now) (at-if1 .if1 .taken))
 
 returns-2 : tie.Need-returns-2
 returns-2 c =
-    let args = c .before .before .before .before .before .before .before .before .before .before .before .before .before .before .before .before .before .before .before .before .before .before .args in
-    let stored = then (then (then (c .before .before .before .before .before .before .before .before .before .before .before .before .before .before .before .before .before .put .ensures) (c .before .before .before .before .before .before .before .before .before .before .before .put3 .ensures)) (c .before .before .before .before .before .before .before .put4 .ensures)) (c .before .before .put5 .ensures) in
-    let parts = append-assoc (args .boot .now) separator (args .init .now) ∙ sym (whole-some (args .boot .now) (args .init .now) (c .before .before .before .before .before .before .before .before .before .before .before .before .before .before .if1 .left)) in
+    let at-put4 = c .before .before .before .before .before .before .before in
+    let at-put3 = at-put4 .before .before .before .before in
+    let at-if1 = at-put3 .before .before .before in
+    let at-put = at-if1 .before .before .before in
+    let start = at-put .before .before .before .before .before in
+    let args = start .args in
+    let stored = then (then (then (at-put .put .ensures) (at-put3 .put3 .ensures)) (at-put4 .put4 .ensures)) (c .before .before .put5 .ensures) in
+    let parts = append-assoc (args .boot .now) separator (args .init .now) ∙ sym (whole-some (args .boot .now) (args .init .now) (at-if1 .if1 .left)) in
     stored .bytes ∙ ap (λ text. sets (args .out .now) 0 (text ++ (0 ∷ []))) parts
 
 pub write-spec : {M : Type 1} → statement M
