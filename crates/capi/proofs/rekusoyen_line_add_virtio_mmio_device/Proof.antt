@@ -4,7 +4,11 @@ use Rattle.capi.proofs.rekusoyen_line_add_virtio_mmio_device.Statement.
 use Rattle.capi.proofs.rekusoyen_line_add_virtio_mmio_device.Tie as tie
 
 returns : tie.Need-returns
-returns c = rw (c .before .before .before .before .add-virtio-mmio-device .ensures, c .before .before .before .before .before .id-by .ensures, c .before .before .before .before .before .before .before .look .ensures) at (c .before .before .settle .ensures)
+returns c =
+    let at-add-virtio-mmio-device = c .before .before .before .before in
+    let at-id-by = at-add-virtio-mmio-device .before in
+    let at-look = at-id-by .before .before in
+    rw (at-add-virtio-mmio-device .add-virtio-mmio-device .ensures, at-id-by .id-by .ensures, at-look .look .ensures) at (c .before .before .settle .ensures)
 
 pub rekusoyen-line-add-virtio-mmio-device-spec : {M : Type 1} → statement M
 rekusoyen-line-add-virtio-mmio-device-spec =

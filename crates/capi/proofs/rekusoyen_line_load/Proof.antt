@@ -6,13 +6,19 @@ use Rattle.capi.proofs.rekusoyen_line_load.Tie as tie
 
 returns : tie.Need-returns
 returns c =
-    let args = c .before .before .before .before .before .before .before .before .args in
-    load-refused (args .line .now) (args .address) (args .guest .now) (c .before .before .before .before .before .look .ensures) (c .before .before .gate .given .1) (c .number .ensures)
+    let at-look = c .before .before .before .before .before in
+    let start = at-look .before .before .before in
+    let args = start .args in
+    load-refused (args .line .now) (args .address) (args .guest .now) (at-look .look .ensures) (c .before .before .gate .given .1) (c .number .ensures)
 
 returns-2 : tie.Need-returns-2
 returns-2 c =
-    let args = c .before .before .before .before .before .before .before .before .before .before .before .args in
-    load-told (args .line .now) (args .address) (args .guest .now) (c .before .before .before .before .before .before .before .before .look .ensures) (c .before .before .before .before .before .enum-told .given .1) (c .before .before .before .load-cmdline .ensures) (c .load-number .ensures)
+    let at-load-cmdline = c .before .before .before in
+    let at-enum-told = at-load-cmdline .before .before in
+    let at-look = at-enum-told .before .before .before in
+    let start = at-look .before .before .before in
+    let args = start .args in
+    load-told (args .line .now) (args .address) (args .guest .now) (at-look .look .ensures) (at-enum-told .enum-told .given .1) (at-load-cmdline .load-cmdline .ensures) (c .load-number .ensures)
 
 pub rekusoyen-line-load-spec : {M : Type 1} → statement M
 rekusoyen-line-load-spec =

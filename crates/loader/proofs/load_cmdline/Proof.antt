@@ -13,9 +13,14 @@ returns c =
 
 returns-2 : tie.Need-returns-2
 returns-2 c =
-    let args = c .before .before .before .before .before .before .before .before .before .args in
-    line-loads (args .cmdline) (args .guest-addr .0) (c .before .before .before .before .before .lesser .result) (args .guest .now) (held (c .before .before .before .before .before .before .before .is-allowed .ensures) (c .before .before .before .before .before .before .if1 .left))
-    (c .before .before .before .before .before .lesser .ensures) (c .before .before .before .as-cstring .ensures) (c .answer-for .ensures)
+    let at-as-cstring = c .before .before .before in
+    let at-lesser = at-as-cstring .before .before in
+    let at-if1 = at-lesser .before in
+    let at-is-allowed = at-if1 .before in
+    let start = at-is-allowed .before .before in
+    let args = start .args in
+    line-loads (args .cmdline) (args .guest-addr .0) (at-lesser .lesser .result) (args .guest .now) (held (at-is-allowed .is-allowed .ensures) (at-if1 .if1 .left))
+    (at-lesser .lesser .ensures) (at-as-cstring .as-cstring .ensures) (c .answer-for .ensures)
 
 pub load-cmdline-spec : {M : Type 1} → statement M
 load-cmdline-spec =

@@ -8,16 +8,25 @@ use Rattle.bzimage.proofs.header.header_with.Statement.{statement}
 use Rattle.bzimage.proofs.header.header_with.Tie as tie
 
 sub-at : tie.Need-sub-at
-sub-at c = omega (arith, c .place2 .ensures ∙ at-code32-start, c .before .before .before .before .before .before .place .ensures ∙ at-setup-sects)
+sub-at c =
+    let at-place = c .before .before .before .before .before .before in
+    omega (arith, c .place2 .ensures ∙ at-code32-start, at-place .place .ensures ∙ at-setup-sects)
 
 put-u32-requires : tie.Need-put-u32-requires
 put-u32-requires c κs =
-    omega (arith, c .before .place2 .ensures ∙ at-code32-start, c .before .before .before .before .before .before .before .place .ensures ∙ at-setup-sects, c .before .before .before .copy .kept .0)
+    let at-copy = c .before .before .before in
+    let at-place = at-copy .before .before .before .before in
+    omega (arith, c .before .place2 .ensures ∙ at-code32-start, at-place .place .ensures ∙ at-setup-sects, at-copy .copy .kept .0)
 
 returns : tie.Need-returns
 returns c =
-    let args = c .before .before .before .before .before .before .before .before .before .before .before .args in
-    header-made (args .image .now) (args .load .0) (c .before .before .before .before .before .before .before .before .before .place .ensures) (c .before .before .before .before .before .before .before .before .lesser .ensures) (c .before .before .before .before .before .copy .ensures) (c .before .before .before .place2 .ensures)
+    let at-place2 = c .before .before .before in
+    let at-copy = at-place2 .before .before in
+    let at-lesser = at-copy .before .before .before in
+    let at-place = at-lesser .before in
+    let start = at-place .before .before in
+    let args = start .args in
+    header-made (args .image .now) (args .load .0) (at-place .place .ensures) (at-lesser .lesser .ensures) (at-copy .copy .ensures) (at-place2 .place2 .ensures)
     (c .before .put-u32 .ensures)
 
 pub header-with-spec : {M : Type 1} → statement M

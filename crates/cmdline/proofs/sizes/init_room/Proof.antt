@@ -7,13 +7,18 @@ use Rattle.cmdline.proofs.sizes.init_room.Tie as tie
 
 add-within : tie.Need-add-within
 add-within c =
-    let size = size-most (c .before .before .before .before .lesser .result) (c .before .before .before .lesser2 .result) in
-    let gap = init-gap-most (c .before .before .before .lesser2 .result) in
+    let at-lesser2 = c .before .before .before in
+    let at-lesser = at-lesser2 .before in
+    let size = size-most (at-lesser .lesser .result) (at-lesser2 .lesser2 .result) in
+    let gap = init-gap-most (at-lesser2 .lesser2 .result) in
     omega arith
 
 returns : tie.Need-returns
 returns c =
-    rw (← c .before .before .before .before .before .lesser .ensures, ← c .before .before .before .before .lesser2 .ensures, ← c .before .before .before .lesser3 .ensures, ← c .before .before .counted .ensures, ← c .before .init-gap .ensures) (c .within .ensures)
+    let at-lesser3 = c .before .before .before in
+    let at-lesser2 = at-lesser3 .before in
+    let at-lesser = at-lesser2 .before in
+    rw (← at-lesser .lesser .ensures, ← at-lesser2 .lesser2 .ensures, ← at-lesser3 .lesser3 .ensures, ← c .before .before .counted .ensures, ← c .before .init-gap .ensures) (c .within .ensures)
 
 pub init-room-spec : {M : Type 1} → statement M
 init-room-spec =

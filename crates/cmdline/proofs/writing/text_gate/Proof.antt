@@ -6,8 +6,12 @@ use Rattle.cmdline.proofs.writing.text_gate.Tie as tie
 
 returns : tie.Need-returns
 returns c =
-    let args = c .before .before .before .before .before .before .before .before .args in
-    text-asked (args .boot .now) (args .init .now) (c .before .before .before .before .before .is-headed .ensures) (c .before .before .before .before .require .ensures) (c .before .before .before .has .ensures) (c .before .before .require2 .ensures)
+    let at-has = c .before .before .before in
+    let at-require = at-has .before in
+    let at-is-headed = at-require .before in
+    let start = at-is-headed .before .before .before in
+    let args = start .args in
+    text-asked (args .boot .now) (args .init .now) (at-is-headed .is-headed .ensures) (at-require .require .ensures) (at-has .has .ensures) (c .before .before .require2 .ensures)
     (c .before .has2 .ensures) (c .require3 .ensures)
 
 pub text-gate-spec : {M : Type 1} → statement M

@@ -6,7 +6,11 @@ use Rattle.elf.proofs.program_headers.read_header.Tie as tie
 
 returns : tie.Need-returns
 unfolding headerAt
-returns c = rw (c .read-u644 .ensures .value, c .before .read-u643 .ensures .value, c .before .before .read-u642 .ensures .value, c .before .before .before .read-u64 .ensures .value, c .before .before .before .before .read-u32 .ensures .value, c .before .before .before .before .before .place .ensures)
+returns c =
+    let at-read-u64 = c .before .before .before in
+    let at-read-u32 = at-read-u64 .before in
+    let at-place = at-read-u32 .before in
+    rw (c .read-u644 .ensures .value, c .before .read-u643 .ensures .value, c .before .before .read-u642 .ensures .value, at-read-u64 .read-u64 .ensures .value, at-read-u32 .read-u32 .ensures .value, at-place .place .ensures)
 
 pub read-header-spec : {M : Type 1} → statement M
 read-header-spec =

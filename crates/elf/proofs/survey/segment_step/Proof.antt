@@ -17,19 +17,30 @@ add-at c = omega (arith, within-sum _ _ _ (held (c .before .sum-fits .ensures) (
 
 returns-2 : tie.Need-returns-2
 unfolding segmentStep pick
-returns-2 c = rw (held (c .before .before .before .sum-fits .ensures) (c .before .before .if1 .left), failed (c .before .within .ensures) (c .if2 .taken))
+returns-2 c =
+    let at-sum-fits = c .before .before .before in
+    rw (held (at-sum-fits .sum-fits .ensures) (c .before .before .if1 .left), failed (c .before .within .ensures) (c .if2 .taken))
 
 returns-3 : tie.Need-returns-3
 unfolding segmentStep pick
-returns-3 c = rw (held (c .before .before .before .before .before .sum-fits .ensures) (c .before .before .before .before .if1 .left), held (c .before .before .before .within .ensures) (c .before .before .if2 .left), failed (c .before .has-room .ensures) (c .if3 .taken))
+returns-3 c =
+    let at-within = c .before .before .before in
+    let at-if1 = at-within .before in
+    let at-sum-fits = at-if1 .before in
+    rw (held (at-sum-fits .sum-fits .ensures) (at-if1 .if1 .left), held (at-within .within .ensures) (c .before .before .if2 .left), failed (c .before .has-room .ensures) (c .if3 .taken))
 
 returns-4 : tie.Need-returns-4
 unfolding segmentStep pick
 returns-4 c =
+    let at-has-room = c .before .before .before in
+    let at-if2 = at-has-room .before in
+    let at-within = at-if2 .before in
+    let at-if1 = at-within .before in
+    let at-sum-fits = at-if1 .before in
     rw (
-      held (c .before .before .before .before .before .before .before .sum-fits .ensures) (c .before .before .before .before .before .before .if1 .left),
-      held (c .before .before .before .before .before .within .ensures) (c .before .before .before .before .if2 .left),
-      held (c .before .before .before .has-room .ensures) (c .before .before .if3 .left),
+      held (at-sum-fits .sum-fits .ensures) (at-if1 .if1 .left),
+      held (at-within .within .ensures) (at-if2 .if2 .left),
+      held (at-has-room .has-room .ensures) (c .before .before .if3 .left),
       failed (c .before .sum-fits2 .ensures) (c .if4 .taken),
     )
 
@@ -39,10 +50,15 @@ add-t15 c = omega (arith, within-sum _ _ _ (held (c .before .sum-fits2 .ensures)
 returns-5 : tie.Need-returns-5
 unfolding segmentStep pick
 returns-5 c =
+    let at-has-room = c .before .before .before in
+    let at-if2 = at-has-room .before in
+    let at-within = at-if2 .before in
+    let at-if1 = at-within .before in
+    let at-sum-fits = at-if1 .before in
     rw (
-      held (c .before .before .before .before .before .before .before .sum-fits .ensures) (c .before .before .before .before .before .before .if1 .left),
-      held (c .before .before .before .before .before .within .ensures) (c .before .before .before .before .if2 .left),
-      held (c .before .before .before .has-room .ensures) (c .before .before .if3 .left),
+      held (at-sum-fits .sum-fits .ensures) (at-if1 .if1 .left),
+      held (at-within .within .ensures) (at-if2 .if2 .left),
+      held (at-has-room .has-room .ensures) (c .before .before .if3 .left),
       held (c .before .sum-fits2 .ensures) (c .if4 .left),
     )
 

@@ -6,11 +6,16 @@ use Rattle.slugs.proofs.buffers.put_after.Tie as tie
 
 returns : tie.Need-returns
 returns c =
-    after-none (c .before .before .before .before .before .before .before .args .n) (c .before .before .before .before .if1 .taken) (c .before .before .put .ensures)
+    let at-if1 = c .before .before .before .before in
+    let start = at-if1 .before .before .before in
+    after-none (start .args .n) (at-if1 .if1 .taken) (c .before .before .put .ensures)
 
 returns-2 : tie.Need-returns-2
 returns-2 c =
-    after-some (c .before .before .before .before .before .before .before .before .before .before .before .before .args .n) (c .before .before .before .before .before .before .before .before .before .if1 .left) (then (c .before .before .before .before .before .before .put2 .ensures) (c .before .before .put3 .ensures))
+    let at-put2 = c .before .before .before .before .before .before in
+    let at-if1 = at-put2 .before .before .before in
+    let start = at-if1 .before .before .before in
+    after-some (start .args .n) (at-if1 .if1 .left) (then (at-put2 .put2 .ensures) (c .before .before .put3 .ensures))
 
 pub put-after-spec : {M : Type 1} → statement M
 put-after-spec =

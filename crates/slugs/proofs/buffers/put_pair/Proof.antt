@@ -7,7 +7,9 @@ use Rattle.slugs.proofs.buffers.put_pair.Tie as tie
 
 returns : tie.Need-returns
 returns c =
-    stored-as (simp append-assoc) (then (then (c .before .before .before .before .before .before .before .before .before .before .before .put-after .ensures) (c .before .before .before .before .before .before .put .ensures)) (c .before .before .put2 .ensures))
+    let at-put = c .before .before .before .before .before .before in
+    let at-put-after = at-put .before .before .before .before .before in
+    stored-as (simp append-assoc) (then (then (at-put-after .put-after .ensures) (at-put .put .ensures)) (c .before .before .put2 .ensures))
 
 pub put-pair-spec : {M : Type 1} → statement M
 put-pair-spec =
