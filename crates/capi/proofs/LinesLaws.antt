@@ -1,7 +1,7 @@
 -- Laws of a line in lent bytes: how it is read and asked, and what the entry points come to by how the tests end.
 use Prim.Native.Nat.{ℕ, _-_, _≤_, min}
 use mathlib.Core.Path.{_≡_, refl, sym, ap, _∙_}
-use mathlib.Core.Bool.{Bool}
+use mathlib.Core.Bool.{Bool, true, false}
 use mathlib.Core.List.{List, [], _∷_, _++_}
 use native.Mathlib.Omega.{arith}
 use native.Mathlib.Decide.{decLe}
@@ -33,6 +33,22 @@ use Rattle.loader.specs.Lines as loader
 use Rattle.capi.specs.declared.lines.Held.{Held}
 use Rattle.capi.specs.Loads.{Tells}
 use Rattle.capi.specs.Lines.{zero, bufferAt, lineOf, textIn, lineTests, bytesTests, heldBy, gateNumber, countOf, writeGate, writtenIn, LineWrites, equalGate, LinesCompare, bytesGate, LineLoadsFrom}
+
+-- ---- a test of every byte that is kept as a flag
+
+-- one byte more: where it holds the rest decides as before, else nothing does
+pub one-more : (holds clean : Bool) {rest next : Bool} → (holds ≡ true → rest ≡ next) → (holds ≡ false → rest ≡ false)
+    → pick clean rest false ≡ pick (pick holds clean false) next false
+unfolding pick
+one-more true clean on stop = rw (on refl)
+one-more false true on stop = stop refl
+one-more false false on stop = refl
+
+-- with no byte left the flag is the answer
+pub all-seen : (clean : Bool) {rest : Bool} → rest ≡ true → pick clean rest false ≡ clean
+unfolding pick
+all-seen true e = e
+all-seen false e = refl
 
 -- ---- the bytes of a line
 

@@ -1,6 +1,7 @@
 // A line in bytes that the caller lends: the length of its boot text, of its init text and its capacity, 8 bytes each and the least byte first,
 // then its boot buffer and its init buffer.
 ghost use mathlib.Core.Path.{_≡_};
+ghost use mathlib.Core.Bool.{false};
 ghost use Prim.Native.Nat.{_≤_};
 ghost use lib.ListN.{length};
 ghost use lib.Seq.{sets};
@@ -76,23 +77,27 @@ fn counted(boots: usize, inits: usize) -> usize
     boots + 1 + (4 + inits)
 }
 
-fn is_zero(byte: u8) -> bool
-    ensures { λ r. ⌜ r ≡ zero byte ⌝ }
+// The answer after one byte more.
+fn zero_after(clean: bool, byte: u8) -> bool
+    ensures { λ r. ⌜ r ≡ pick (zero byte) clean false ⌝ }
 {
-    byte == 0
+    if byte == 0 {
+        return clean;
+    }
+    false
 }
 
+// With no way out of the loop before its end, many bytes are looked at in one step.
 fn all_zero(s: &[u8]) -> bool
     ensures { λ r. ⌜ r ≡ every zero (now (s .entry)) ⌝ }
 {
+    let mut clean = true;
     let mut i = 0;
     while i < s.len() {
-        if !is_zero(s[i]) {
-            return false;
-        }
+        clean = zero_after(clean, s[i]);
         i += 1;
     }
-    true
+    clean
 }
 
 // The tests of a line.
