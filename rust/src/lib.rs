@@ -49,6 +49,7 @@ pub mod loader;
 mod refusal;
 
 pub use address::{GuestAddress, GuestUsize};
+pub use loader::bootparam;
 pub use refusal::Refusal;
 
 #[cfg(doctest)]
