@@ -33,9 +33,9 @@ module _ {A : Type 0} (plan : Plan A) (before after : List ℕ) {r : A} (loads :
   same-plan m inside fits as-planned more loads' = (
     loads' .answer ∙ ap (λ (p : Plan A). p .answer) as-planned ∙ sym (loads .answer),
     loads' .memory
-    ∙ ap (λ (p : Plan A). pour (p .stream) (before ++ more)) as-planned
-    ∙ pour-longer (plan .stream) before more m inside fits
-    ∙ ap (λ l. l ++ more) (sym (loads .memory)),
+        ∙ ap (λ (p : Plan A). pour (p .stream) (before ++ more)) as-planned
+        ∙ pour-longer (plan .stream) before more m inside fits
+        ∙ ap (λ l. l ++ more) (sym (loads .memory)),
   )
 
   -- more memory keeps a load, unless its answer may lift
