@@ -12,7 +12,7 @@ use Rattle.answers.specs.declared.Gate.the-variants.{Open, Shut}
 use Rattle.answers.proofs.TestsLaws.{open-all, all-open, shut-first, first-shut}
 use Rattle.answers.proofs.KeepingLaws.{row-keeps, kept}
 use Rattle.guest.specs.Stream.{pour, Inside, none}
-use Rattle.guest.specs.Loading.{Plan, Loads, refusedPlan, behindGate, behindTests, Distinct, RefusedFor}
+use Rattle.guest.specs.Loading.{Plan, Loads, refusedPlan, behindGate, behindTests, RefusedFor}
 use Rattle.guest.specs.declared.Memory.{Memory}
 use Rattle.guest.proofs.StreamLaws.{length-pour, pour-longer}
 
@@ -63,32 +63,20 @@ module _ {A : Type 0} (refused : Refusal → A) (ts : List Test) (plan : Plan A)
   pub first-planned : {r : Refusal} → FirstFails r ts → behindTests refused ts plan ≡ refusedPlan refused r
   first-planned {r} f = tests-shut (first-shut ts r f)
 
-  -- it goes into memory where the plan does whenever all tests hold
-  inside-by : (m : Memory) (gate : Gate) → (gate ≡ Open → Inside m (plan .stream)) → Inside m (behindGate refused gate plan .stream)
-  inside-by m Open inside = inside refl
-  inside-by m (Shut r) inside = none
+  -- so what holds of both holds of it
+  by-gate : (P : Plan A → Type 0) → (AllHold ts → P plan) → ((r : Refusal) → FirstFails r ts → P (refusedPlan refused r)) → (gate : Gate)
+      → askedAll Open ts ≡ gate → P (behindGate refused gate plan)
+  by-gate P holds fails Open e = holds (open-all ts e)
+  by-gate P holds fails (Shut r) e = fails r (shut-first ts r e)
 
-  pub behind-inside : (m : Memory) → (AllHold ts → Inside m (plan .stream)) → Inside m (behindTests refused ts plan .stream)
+  pub behind-with : (P : Plan A → Type 0) → (AllHold ts → P plan) → ((r : Refusal) → FirstFails r ts → P (refusedPlan refused r))
+      → P (behindTests refused ts plan)
   unfolding behindTests
-  behind-inside m inside = inside-by m (askedAll Open ts) (λ e. inside (open-all ts e))
+  behind-with P holds fails = by-gate P holds fails (askedAll Open ts) refl
 
-  -- the converse, where an accepted answer can be told from a refusal
-  module _ (distinct : Distinct refused (plan .answer)) where
-    accepted-by : (gate : Gate) → behindGate refused gate plan .answer ≡ plan .answer → gate ≡ Open
-    accepted-by Open e = refl
-    accepted-by (Shut r) e = absurd (distinct .not-refused r e)
-
-    refused-by : (gate : Gate) {r : Refusal} → behindGate refused gate plan .answer ≡ refused r → gate ≡ Shut r
-    refused-by Open {r} e = absurd (distinct .not-refused r (sym e))
-    refused-by (Shut s) {r} e = ap Shut (distinct .same-refusal s r e)
-
-    pub planned-all : behindTests refused ts plan .answer ≡ plan .answer → AllHold ts
-    unfolding behindTests
-    planned-all e = open-all ts (accepted-by (askedAll Open ts) e)
-
-    pub planned-first : {r : Refusal} → behindTests refused ts plan .answer ≡ refused r → FirstFails r ts
-    unfolding behindTests
-    planned-first {r} e = shut-first ts r (refused-by (askedAll Open ts) e)
+  -- it goes into memory where the plan does whenever all tests hold
+  pub behind-inside : (m : Memory) → (AllHold ts → Inside m (plan .stream)) → Inside m (behindTests refused ts plan .stream)
+  behind-inside m inside = behind-with (λ p. Inside m (p .stream)) inside (λ r f. none)
 
 -- ---- more memory, or more image bytes: tests that widen, and a plan that is kept behind them
 

@@ -31,11 +31,6 @@ behindGate refused (Shut r) plan = refusedPlan refused r
 unfoldable pub behindTests : {A : Type 0} → (Refusal → A) → List Test → Plan A → Plan A
 behindTests refused ts plan = behindGate refused (askedAll Open ts) plan
 
--- what tells an accepted answer from a refusal, and one refusal from another
-pub record Distinct {A : Type 0} (refused : Refusal → A) (accepted : A) : Type 0 where
-  pub not-refused : (r : Refusal) → refused r ≡ accepted → ⊥
-  pub same-refusal : (r s : Refusal) → refused r ≡ refused s → r ≡ s
-
 -- an answer that refuses with one of these
 pub record RefusedFor {A : Type 0} (refused : Refusal → A) (Lifts : Refusal → Type 0) (answer : A) : Type 0 where
   pub refusal : Refusal
