@@ -16,7 +16,7 @@ use Rattle.answers.specs.declared.Gate.the-variants.{Open, Shut}
 use Rattle.cmdline.specs.declared.Written.the-variants as written
 use Rattle.slugs.specs.Bytes.{has}
 use Rattle.cmdline.specs.Text.{Text}
-use Rattle.cmdline.specs.Writing.{whole, headed, textTests, textGate, writeGate, writtenOf, bytesOf, sameBytes, sameAnswer, sameLine}
+use Rattle.cmdline.specs.Writing.{whole, headed, textTests, textGate, writeGate, writtenOf, writtenBytes, sameBytes, sameAnswer, sameLine}
 use Rattle.slugs.proofs.BytesLaws.{both-left, both-right}
 use Rattle.slugs.proofs.RowsLaws.{all-append}
 
@@ -86,7 +86,7 @@ told t = split (headed (length (t .boot)) (length (t .init))) (not (has 0 (whole
 -- the written answer and the bytes, by the gate
 pub record Answers (a b : Text) (g h : Gate) : Type 0 where
   pub answer : writtenOf g a ≡ writtenOf h b
-  pub bytes : bytesOf g a ≡ bytesOf h b
+  pub bytes : writtenBytes g a ≡ writtenBytes h b
 
 module _ (a b : Text) where
   forth : (g h : Gate) → Told g → Told h → sameAnswer g h (sameBytes (whole a) (whole b)) ≡ true → Answers a b g h
