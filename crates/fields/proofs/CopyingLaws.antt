@@ -1,11 +1,11 @@
 -- Laws of a run of stores, `sets`, as a copy makes it.
-use Prim.Native.Nat.{ℕ, suc, _≤_, _<_, min}
-use mathlib.Core.Path.{_≡_, refl, _∙_}
-use mathlib.Core.List.{List, [], _∷_}
+use Prim.Native.Nat.{ℕ, suc, _+_, _≤_, _<_, min}
+use mathlib.Core.Path.{_≡_, refl, sym, ap, _∙_}
+use mathlib.Core.List.{List, [], _∷_, _++_}
 use native.Mathlib.Omega.{arith}
 use native.Mathlib.Decide.{decLe}
 use lib.ListN.{length, set, getD, drop, length-set, drop-of-length-le}
-use lib.Seq.{sets, set-out, drop-cons}
+use lib.Seq.{sets, set-out, drop-cons, getD-set-other}
 
 -- stores past the end change nothing
 pub sets-out : (vs l : List ℕ) (i : ℕ) → length l ≤ i → sets l i vs ≡ l
@@ -23,3 +23,42 @@ sets-done vs l i h = split (decLe (length vs) i)
 -- one more store
 pub sets-next : (vs l : List ℕ) (i : ℕ) → i < length vs → sets (set l i (getD vs i 0)) (suc i) (drop (suc i) vs) ≡ sets l i (drop i vs)
 sets-next vs l i h = rw (drop-cons vs i 0 h)
+
+-- a place at or past the end may be any other such place
+pub sets-clipped : (vs l : List ℕ) (p q : ℕ) → q ≡ min p (length l) → sets l q vs ≡ sets l p vs
+sets-clipped vs l p q e = split (decLe (length l) p)
+  where
+    split : Dec (length l ≤ p) → sets l q vs ≡ sets l p vs
+    split (yes h) = sets-out vs l q (omega arith) ∙ sym (sets-out vs l p h)
+    split (no n) = let same : q ≡ p = omega arith in rw same
+
+-- stores in two parts
+pub sets-append : (xs ys l : List ℕ) (p q : ℕ) → q ≡ p + length xs → sets l p (xs ++ ys) ≡ sets (sets l p xs) q ys
+sets-append [] ys l p q e = let same : p ≡ q = omega arith in ap (λ (k : ℕ). sets l k ys) same
+sets-append (x ∷ xs) ys l p q e = sets-append xs ys (set l p x) (suc p) q (omega arith)
+
+-- stores above a place, and stores that end below it, keep its byte
+pub sets-below : (vs l : List ℕ) (i p : ℕ) → p < i → getD (sets l i vs) p 0 ≡ getD l p 0
+sets-below [] l i p h = refl
+sets-below (v ∷ vs) l i p h = sets-below vs (set l i v) (suc i) p (omega arith) ∙ getD-set-other l i p v 0 (λ e. absurd (omega arith))
+
+pub sets-above : (vs l : List ℕ) (i p : ℕ) → i + length vs ≤ p → getD (sets l i vs) p 0 ≡ getD l p 0
+sets-above [] l i p h = refl
+sets-above (v ∷ vs) l i p h = sets-above vs (set l i v) (suc i) p (omega arith) ∙ getD-set-other l i p v 0 (λ e. absurd (omega arith))
+
+-- a run of no stores
+pub sets-none : (vs l : List ℕ) (i : ℕ) → length vs ≡ 0 → sets l i vs ≡ l
+sets-none [] l i e = refl
+sets-none (v ∷ vs) l i e = absurd (omega arith)
+
+-- stores behind the first element
+pub sets-behind : (vs l : List ℕ) (x i : ℕ) → sets (x ∷ l) (suc i) vs ≡ x ∷ sets l i vs
+sets-behind [] l x i = refl
+sets-behind (v ∷ vs) l x i = sets-behind vs (set l i v) x (suc i)
+
+-- stores over a whole list leave what was stored
+pub sets-whole : (vs l : List ℕ) → length l ≡ length vs → sets l 0 vs ≡ vs
+sets-whole [] [] e = refl
+sets-whole [] (x ∷ l) e = absurd (omega arith)
+sets-whole (v ∷ vs) [] e = absurd (omega arith)
+sets-whole (v ∷ vs) (x ∷ l) e = sets-behind vs l v 0 ∙ ap (λ (t : List ℕ). v ∷ t) (sets-whole vs l (omega arith))

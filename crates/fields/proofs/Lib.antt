@@ -1,5 +1,9 @@
+pub mod CopyingLaws
+pub mod BytesAtLaws
 pub mod NumbersLaws
 pub mod TagsLaws
 pub mod RangesLaws
-pub mod CopyingLaws
+pub mod RowsLaws
+pub mod RowsBack
+pub mod WholeRows
 pub mod Outcomes

@@ -1,11 +1,15 @@
 -- Laws of little-endian numbers, over the width.
-use Prim.Native.Nat.{ℕ, zero, suc, _+_, _≤_, _<_, _*_, _^_}
+use Prim.Native.Nat.{ℕ, zero, suc, _+_, _-_, _≤_, _<_, _*_, _/_, _%_, _^_, min}
 use mathlib.Core.Path.{_≡_, refl, ap, sym, _∙_, subst⁻¹, subst₂}
 use mathlib.Core.List.{List, _++_}
 use native.Mathlib.Omega.{arith}
+use native.Mathlib.Decide.{decLe}
 use native.Mathlib.Nat.{pow-suc, pow-le-pow-right, lt-of-lt-of-le}
-use lib.ListN.{length, getD, List·getD-append, List·getD-eq-default}
-use Rattle.fields.specs.Numbers.{le, ReadAs}
+use lib.ListN.{length, getD, set, List·getD-append, List·getD-eq-default}
+use lib.Seq.{sets}
+use Rattle.fields.specs.Numbers.{le, ReadAs, leBytes, BytesAt, a-byte}
+use Rattle.fields.proofs.CopyingLaws.{sets-out, sets-none}
+use Rattle.fields.proofs.BytesAtLaws.{stored-at}
 
 -- a number of one byte is the byte
 pub le-one : (s : List ℕ) (p : ℕ) → le 1 s p ≡ getD s p 0
@@ -54,3 +58,42 @@ pub le-append : (n : ℕ) (s t : List ℕ) (p : ℕ) → p + n ≤ length s → 
 unfolding le
 le-append zero s t p h = refl
 le-append (suc n) s t p h = rw (List·getD-append s t 0 p (omega arith), le-append n s t (suc p) (omega arith))
+
+-- past the end there are only zeros
+pub le-past : (n : ℕ) (s : List ℕ) (p : ℕ) → length s ≤ p → le n s p ≡ 0
+unfolding le
+le-past zero s p h = refl
+le-past (suc n) s p h = rw (List·getD-eq-default s 0 h, le-past n s (suc p) (omega arith))
+
+-- ---- the bytes of a number
+
+pub length-le-bytes : (n v : ℕ) → length (leBytes n v) ≡ n
+unfolding leBytes
+length-le-bytes zero v = refl
+length-le-bytes (suc n) v = ap suc (length-le-bytes n (v / 256))
+
+-- a number reads back from its bytes
+pub le-bytes : (n v : ℕ) (s : List ℕ) (p : ℕ) → v < 256 ^ n → BytesAt s p (leBytes n v) → le n s p ≡ v
+unfolding le leBytes
+le-bytes zero v s p h e = omega arith
+le-bytes (suc n) v s p h (a-byte b rest) =
+    let small : v < 256 ^ n * 256 = rw (sym (pow-suc 256 n)) h in
+    let more = le-bytes n (v / 256) s (suc p) (omega arith) rest in
+    omega arith
+
+-- what was written is read back
+pub le-written : (n v : ℕ) (s : List ℕ) (p : ℕ) → v < 256 ^ n → p + n ≤ length s → le n (sets s p (leBytes n v)) p ≡ v
+le-written n v s p h room = le-bytes n v (sets s p (leBytes n v)) p h (stored-at (leBytes n v) s p (rw (length-le-bytes n v) room))
+
+-- ---- a number written byte by byte: end is where the bytes end, or the slice does
+
+pub put-next : (s : List ℕ) (p v : ℕ) {n m : ℕ} → m ≡ suc n → sets (set s p (v % 256)) (suc p) (leBytes n (v / 256)) ≡ sets s p (leBytes m v)
+unfolding leBytes
+put-next s p v e = rw e
+
+pub put-done : (s : List ℕ) (p v end : ℕ) → min end (length s) ≤ p → sets s p (leBytes (end - p) v) ≡ s
+put-done s p v end h = split (decLe end p)
+  where
+    split : Dec (end ≤ p) → sets s p (leBytes (end - p) v) ≡ s
+    split (yes low) = let none : end - p ≡ 0 = omega arith in sets-none (leBytes (end - p) v) s p (length-le-bytes (end - p) v ∙ none)
+    split (no high) = sets-out (leBytes (end - p) v) s p (omega arith)

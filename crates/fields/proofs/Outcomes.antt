@@ -16,14 +16,22 @@ use Rattle.fields.proofs.numbers.read_u32.Kinds as read-u32-kinds
 use Rattle.fields.proofs.numbers.read_u32.Reads as read-u32-reads
 use Rattle.fields.proofs.numbers.read_u64.Kinds as read-u64-kinds
 use Rattle.fields.proofs.numbers.read_u64.Reads as read-u64-reads
+use Rattle.fields.proofs.numbers.put_le.Kinds as put-le-kinds
+use Rattle.fields.proofs.numbers.put_le.Reads as put-le-reads
 use Rattle.fields.proofs.tags.is_tag.Kinds as is-tag-kinds
 use Rattle.fields.proofs.tags.is_tag.Reads as is-tag-reads
 use Rattle.fields.proofs.ranges.within.Kinds as within-kinds
 use Rattle.fields.proofs.ranges.within.Reads as within-reads
 use Rattle.fields.proofs.ranges.sum_fits.Kinds as sum-fits-kinds
 use Rattle.fields.proofs.ranges.sum_fits.Reads as sum-fits-reads
+use Rattle.fields.proofs.ranges.sum_up_to.Kinds as sum-up-to-kinds
+use Rattle.fields.proofs.ranges.sum_up_to.Reads as sum-up-to-reads
 use Rattle.fields.proofs.rounding.align_up.Kinds as align-up-kinds
 use Rattle.fields.proofs.rounding.align_up.Reads as align-up-reads
+use Rattle.fields.proofs.rows.put_rows.Kinds as put-rows-kinds
+use Rattle.fields.proofs.rows.put_rows.Reads as put-rows-reads
+use Rattle.fields.proofs.rows.read_rows.Kinds as read-rows-kinds
+use Rattle.fields.proofs.rows.read_rows.Reads as read-rows-reads
 use Rattle.fields.proofs.copying.lesser.Kinds as lesser-kinds
 use Rattle.fields.proofs.copying.lesser.Reads as lesser-reads
 use Rattle.fields.proofs.copying.copy.Kinds as copy-kinds
@@ -50,6 +58,9 @@ read-u32-one κs a z z' ws ws' p q = (meet (p .value) (q .value), refl)
 pub read-u64-one : OneOutcome 1 read-u64-kinds.ps read-u64-kinds.r read-u64-reads.Post
 read-u64-one κs a z z' ws ws' p q = (meet (p .value) (q .value), refl)
 
+pub put-le-one : OneOutcome 1 put-le-kinds.ps put-le-kinds.r put-le-reads.Post
+put-le-one κs a z z' ws ws' p q = (refl, first (meet p q))
+
 pub is-tag-one : OneOutcome 2 is-tag-kinds.ps is-tag-kinds.r is-tag-reads.Post
 is-tag-one κs a z z' ws ws' p q = (meet p q, refl)
 
@@ -59,8 +70,17 @@ within-one κs a z z' ws ws' p q = (meet p q, refl)
 pub sum-fits-one : OneOutcome 0 sum-fits-kinds.ps sum-fits-kinds.r sum-fits-reads.Post
 sum-fits-one κs a z z' ws ws' p q = (meet p q, refl)
 
+pub sum-up-to-one : OneOutcome 0 sum-up-to-kinds.ps sum-up-to-kinds.r sum-up-to-reads.Post
+sum-up-to-one κs a z z' ws ws' p q = (meet p q, refl)
+
 pub align-up-one : OneOutcome 0 align-up-kinds.ps align-up-kinds.r align-up-reads.Post
 align-up-one κs a z z' ws ws' p q = (meet p q, refl)
+
+pub put-rows-one : OneOutcome 3 put-rows-kinds.ps put-rows-kinds.r put-rows-reads.Post
+put-rows-one κs a z z' ws ws' p q = (refl, first (meet p q))
+
+pub read-rows-one : OneOutcome 3 read-rows-kinds.ps read-rows-kinds.r read-rows-reads.Post
+read-rows-one κs a z z' ws ws' p q = (refl, first (meet p q))
 
 pub lesser-one : OneOutcome 0 lesser-kinds.ps lesser-kinds.r lesser-reads.Post
 lesser-one κs a z z' ws ws' p q = (meet p q, refl)

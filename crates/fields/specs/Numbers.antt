@@ -1,7 +1,7 @@
--- Little-endian numbers at a place.
+-- Little-endian numbers at a place, read and written.
 use mathlib.Core.Path.{_≡_}
-use mathlib.Core.List.{List}
-use Prim.Native.Nat.{ℕ, zero, suc, _+_, _*_, _^_, _<_}
+use mathlib.Core.List.{List, [], _∷_}
+use Prim.Native.Nat.{ℕ, zero, suc, _+_, _*_, _/_, _%_, _^_, _<_}
 use lib.ListN.{getD}
 
 -- the number of n bytes at p, the first byte least; a byte past the end is 0
@@ -13,3 +13,13 @@ le (suc n) s p = getD s p 0 + 256 * le n s (suc p)
 pub record ReadAs (n : ℕ) (s : List ℕ) (p r : ℕ) : Type 0 where
   pub value : r ≡ le n s p
   pub small : r < 256 ^ n
+
+-- the n low bytes of a number, the least first
+unfoldable pub leBytes : ℕ → ℕ → List ℕ
+leBytes zero v = []
+leBytes (suc n) v = v % 256 ∷ leBytes n (v / 256)
+
+-- these bytes stand in s from p on; a byte past the end is 0
+pub data BytesAt (s : List ℕ) : ℕ → List ℕ → Type 0 where
+  no-byte : {p : ℕ} → BytesAt s p []
+  a-byte : {p b : ℕ} {bs : List ℕ} → getD s p 0 ≡ b → BytesAt s (suc p) bs → BytesAt s p (b ∷ bs)

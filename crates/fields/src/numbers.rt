@@ -1,7 +1,9 @@
-// Little-endian numbers at a place of a slice. A byte past the end counts as 0.
+// Little-endian numbers at a place of a slice. A byte past the end is read as 0, and not written.
 ghost use mathlib.Core.Path.{_≡_};
 ghost use Prim.Native.Nat.{_+_, min};
-ghost use Rattle.fields.specs.Numbers.{ReadAs};
+ghost use lib.Seq.{sets};
+ghost use Rattle.fields.specs.Numbers.{ReadAs, leBytes};
+use crate::ranges;
 
 // A byte as a wide number.
 pub fn wide(byte: u8) -> u64
@@ -62,4 +64,18 @@ pub fn read_u64(s: &[u8], at: u64) -> u64
     ensures { λ r. ⌜ ReadAs 8 (now (s .entry)) at r ⌝ }
 {
     read_le(s, at, 8)
+}
+
+// Writes the `width` low bytes of a number at a place, the least first, as far as the slice goes.
+pub fn put_le(s: &mut [u8], at: u64, width: u64, v: u64)
+    ensures { λ _. ⌜ now (s .exit) ≡ sets (now (s .entry)) at (leBytes width v) ⌝ }
+{
+    let end = ranges::sum_up_to(s.len() as u64, at, width);
+    let mut rest = v;
+    let mut p = at;
+    while p < end {
+        s[p as usize] = (rest % 256) as u8;
+        rest = rest / 256;
+        p += 1;
+    }
 }

@@ -1,5 +1,6 @@
 // Sums of a place and a size, reckoned as whole numbers.
 ghost use mathlib.Core.Path.{_≡_};
+ghost use Prim.Native.Nat.{_+_, min};
 ghost use Rattle.fields.specs.Ranges.{liesWithin, fits64};
 
 // Do n bytes from a place lie within a length?
@@ -17,4 +18,11 @@ pub fn sum_fits(a: u64, b: u64) -> bool
     ensures { λ r. ⌜ r ≡ fits64 a b ⌝ }
 {
     within(0xFFFF_FFFF_FFFF_FFFF, a, b)
+}
+
+// A sum, where it does not pass the most that is allowed, else the most.
+pub fn sum_up_to(most: u64, a: u64, b: u64) -> u64
+    ensures { λ r. ⌜ r ≡ min (a + b) most ⌝ }
+{
+    if within(most, a, b) { a + b } else { most }
 }
