@@ -13,7 +13,7 @@ use Rattle.answers.specs.Tests.{Test, AllHold}
 use Rattle.answers.specs.declared.Refusal.the-variants as refusal
 use Rattle.answers.specs.declared.Gate.{Gate}
 use Rattle.answers.specs.declared.Gate.the-variants.{Open, Shut}
-use Rattle.answers.proofs.TestsLaws.{open-all}
+use Rattle.answers.proofs.TestsLaws.{open-all, hold-right}
 use Rattle.cmdline.specs.declared.Answer.the-variants.{Accepted}
 use Rattle.cmdline.specs.declared.DeviceId.{DeviceId}
 use Rattle.slugs.specs.Trimming.{trim}
@@ -28,7 +28,6 @@ use Rattle.cmdline.specs.Making.{new, parted, tryFrom}
 use Rattle.cmdline.specs.Calls
 use Rattle.cmdline.proofs.TextLaws.{joined-long, size-after-boot, size-after-init}
 use Rattle.cmdline.proofs.MakingLaws.{allowed-least}
-use Rattle.slugs.proofs.RowsLaws.{hold-right}
 
 -- a line fits: its counted size is within its capacity
 abbrev pub Fits : Text → Type 0

@@ -14,7 +14,7 @@ use Rattle.answers.specs.declared.Refusal.{Refusal}
 use Rattle.answers.specs.declared.Refusal.the-variants as refusal
 use Rattle.answers.specs.declared.Gate.{Gate}
 use Rattle.answers.specs.declared.Gate.the-variants.{Open, Shut}
-use Rattle.answers.proofs.TestsLaws.{open-all, shut-stays}
+use Rattle.answers.proofs.TestsLaws.{open-all, shut-stays, asked-append, hold-left, hold-right}
 use Rattle.slugs.specs.Bytes.{equals, printable, every}
 use Rattle.slugs.specs.Lists.{listPre, listed}
 use Rattle.slugs.specs.Trimming.{trim}
@@ -22,7 +22,6 @@ use Rattle.slugs.specs.Keys.{keyTests}
 use Rattle.slugs.specs.Values.{valueTests, pair}
 use Rattle.slugs.specs.Stored.{Stored}
 use Rattle.slugs.specs.Joining.{spaceAfter, joined}
-use Rattle.slugs.proofs.RowsLaws.{all-append, hold-left, hold-right}
 use Rattle.slugs.proofs.ValuesLaws.{pair-told}
 use Rattle.cmdline.specs.declared.Answer.the-variants as answer
 use Rattle.cmdline.specs.declared.Cmdline.{Cmdline}
@@ -60,7 +59,7 @@ appends-as {g} {h} {buffer} {n} {s} {t} {left} {r} e same w = split h refl (rw (
 module _ (pre : List Test) (w : List ℕ) (told : AllHold pre → (trim w ≡ w) × (every printable w ≡ true)) (b i c : ℕ) where
   last-asked : asked (askedAll Open pre) (leb (sizeOf b i + bootGap b + length w) c) refusal.TooLarge ≡ askedAll Open (pre ++ strAppend b i c w .tests)
   unfolding strAppend asked pick
-  last-asked = split (askedAll Open pre) refl ∙ sym (all-append Open pre (strAppend b i c w .tests))
+  last-asked = split (askedAll Open pre) refl ∙ sym (asked-append Open pre (strAppend b i c w .tests))
     where
       split : (g : Gate) → askedAll Open pre ≡ g
           → asked (askedAll Open pre) (leb (sizeOf b i + bootGap b + length w) c) refusal.TooLarge ≡ askedAll (askedAll Open pre) (strAppend b i c w .tests)

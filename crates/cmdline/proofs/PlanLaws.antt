@@ -15,7 +15,6 @@ use Rattle.slugs.specs.Bytes.{printable, every}
 use Rattle.slugs.specs.Trimming.{trim}
 use Rattle.cmdline.specs.Text.{Text, bootRoom}
 use Rattle.cmdline.specs.Insertion.{settled, insertStr}
-use Rattle.slugs.proofs.RowsLaws.{all-append}
 
 -- the new matters only where the gate is open
 pub settled-as : {A : Type 0} (g : Gate) (old : A) {a b : A} → (g ≡ Open → a ≡ b) → settled g old a ≡ settled g old b

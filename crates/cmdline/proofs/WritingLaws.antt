@@ -15,7 +15,7 @@ use Rattle.answers.specs.declared.Refusal.{Refusal}
 use Rattle.answers.specs.declared.Refusal.the-variants as refusal
 use Rattle.answers.specs.declared.Gate.{Gate}
 use Rattle.answers.specs.declared.Gate.the-variants.{Open, Shut}
-use Rattle.answers.proofs.TestsLaws.{open-all}
+use Rattle.answers.proofs.TestsLaws.{open-all, asked-append, hold-right}
 use Rattle.slugs.specs.Bytes.{has}
 use Rattle.slugs.specs.Stored.{Stored}
 use Rattle.cmdline.specs.declared.Written.{Written}
@@ -23,7 +23,6 @@ use Rattle.cmdline.specs.declared.Written.the-variants as written
 use Rattle.cmdline.specs.Limit.{limit}
 use Rattle.cmdline.specs.Text.{Text, sizeOf}
 use Rattle.cmdline.specs.Writing.{bare, wholeOf, headed, textTests, writeGate, writtenOf, writtenBytes, Writes, sameBytes, sameLine}
-use Rattle.slugs.proofs.RowsLaws.{all-append, hold-right}
 use Rattle.slugs.proofs.ListLaws.{here, gone}
 use Rattle.slugs.proofs.BytesLaws.{has-append}
 use Rattle.slugs.specs.Splitting.{separator}
@@ -156,7 +155,7 @@ module _ (boot init out : List ℕ) {g h : Gate} {room : Bool} (text : g ≡ ask
   room-test = (leb (length (wholeOf boot init) + 1) (length out), refusal.NoRoom)
 
   write-gate : h ≡ writeGate (bare boot init) (length out)
-  write-gate = last ∙ rw (text, fits, ← whole-size boot init) (sym (all-append Open (textTests boot init) (room-test ∷ [])))
+  write-gate = last ∙ rw (text, fits, ← whole-size boot init) (sym (asked-append Open (textTests boot init) (room-test ∷ [])))
 
   pub writes-refused : (r : Refusal) → h ≡ Shut r → Writes (bare boot init) out (written.Refused r) out
   writes-refused r e =

@@ -5,11 +5,11 @@ use native.Mathlib.Omega.{arith}
 use lib.ListN.{length-append}
 use Rattle.answers.specs.Tests.{askedAll}
 use Rattle.answers.specs.declared.Gate.the-variants.{Open}
+use Rattle.answers.proofs.TestsLaws.{asked-append}
 use Rattle.slugs.specs.Bytes.{equals}
 use Rattle.slugs.specs.Keys.{keyTests}
 use Rattle.slugs.specs.Values.{valueTests, pair}
 use Rattle.slugs.proofs.ValuesLaws.{pair-told}
-use Rattle.slugs.proofs.RowsLaws.{all-append}
 use Rattle.cmdline.specs.Limit.{limit}
 use Rattle.cmdline.specs.InPlace.{pairAppend}
 use Rattle.cmdline.proofs.InPlaceLaws.{slug-appends}
@@ -54,7 +54,7 @@ returns c =
     let first = c .before .before .before .before .before .before .before .before .sum .ensures in
     let long = length-append key (equals ∷ value) in
     slug-appends (keyTests key ++ valueTests value) (pair key value) (pair-told key value) (min (args .boots) limit) (min (args .inits) limit) (min (args .capacity) limit) (omega arith)
-    (c .before .before .before .before .before .before .before .before .before .ask2 .ensures ∙ ap (λ g. askedAll g (valueTests value)) (c .before .before .before .before .before .before .before .before .before .before .ask .ensures) ∙ sym (all-append Open (keyTests key) (valueTests value)))
+    (c .before .before .before .before .before .before .before .before .before .ask2 .ensures ∙ ap (λ g. askedAll g (valueTests value)) (c .before .before .before .before .before .before .before .before .before .before .ask .ensures) ∙ sym (asked-append Open (keyTests key) (valueTests value)))
     (λ hold. omega arith) (c .before .before .before .before .before .before .boot-room .ensures) (c .before .before .before .before .before .require .ensures) (c .before .before .before .lesser .ensures) (c .before .before .append-pair .ensures)
 
 pub insert-spec : {M : Type 1} → statement M

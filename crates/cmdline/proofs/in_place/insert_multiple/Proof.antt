@@ -8,11 +8,11 @@ use borrow.Author.Needs.{needs}
 use Rattle.answers.specs.Tests.{Test, asked}
 use Rattle.answers.specs.declared.Gate.the-variants.{Open}
 use Rattle.answers.specs.declared.Refusal.the-variants.{BadList, MissingVal}
+use Rattle.answers.proofs.TestsLaws.{asked-append}
 use Rattle.slugs.specs.Bytes.{equals}
 use Rattle.slugs.specs.Keys.{keyTests}
 use Rattle.slugs.specs.Lists.{goodList, listPre, listTests, listed}
 use Rattle.slugs.proofs.ListsLaws.{list-long, list-told}
-use Rattle.slugs.proofs.RowsLaws.{all-append}
 use Rattle.cmdline.specs.Limit.{limit}
 use Rattle.cmdline.specs.InPlace.{listAppend}
 use Rattle.cmdline.proofs.InPlaceLaws.{slug-appends}
@@ -29,7 +29,7 @@ returns c =
     let count = c .before .before .before .before .before .before .before .sum2 .ensures in
     let first = c .before .before .before .before .before .before .before .before .sum .ensures in
     let rest : List Test = (ltb 0 (length ends), MissingVal) ∷ listTests 0 ends values in
-    let gate = all-append (asked Open (goodList ends (length values)) BadList) (keyTests key) rest in
+    let gate = asked-append (asked Open (goodList ends (length values)) BadList) (keyTests key) rest in
     slug-appends (listPre key values ends) (key ++ listed equals 0 ends values) (list-told key values ends) (min (args .boots) limit) (min (args .inits) limit) (min (args .capacity) limit)
     (omega arith)
     (c .before .before .before .before .before .before .before .before .before .ask2 .ensures ∙ rw (c .before .before .before .before .before .before .before .before .before .before .require2 .ensures, c .before .before .before .before .before .before .before .before .before .before .before .ask .ensures, c .before .before .before .before .before .before .before .before .before .before .before .before .require .ensures, c .before .before .before .before .before .before .before .before .before .before .before .before .before .is-list .ensures) (sym gate))
