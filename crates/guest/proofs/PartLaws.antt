@@ -45,7 +45,7 @@ take-clipped n l {k} e = split (decLe n (length l))
     split (yes h) = ap (λ (m : ℕ). take m l) (let same : k ≡ n = omega arith in same)
     split (no h) = take-all k l (omega arith) ∙ sym (take-all n l (omega arith))
 
-drop-clipped : (n : ℕ) (l : List ℕ) {k : ℕ} → k ≡ min n (length l) → drop k l ≡ drop n l
+pub drop-clipped : (n : ℕ) (l : List ℕ) {k : ℕ} → k ≡ min n (length l) → drop k l ≡ drop n l
 drop-clipped n l {k} e = split (decLe n (length l))
   where
     split : Dec (n ≤ length l) → drop k l ≡ drop n l
