@@ -9,7 +9,7 @@ use lib.Seq.{sets, length-sets}
 use Rattle.answers.specs.declared.Refusal.{Refusal}
 use Rattle.fields.specs.Numbers.{le, leBytes}
 use Rattle.fields.proofs.CopyingLaws.{sets-outside}
-use Rattle.fields.proofs.BytesAtLaws.{stored-at}
+use Rattle.fields.proofs.HasBytesLaws.{stored-at}
 use Rattle.fields.proofs.NumbersLaws.{length-le-bytes, le-low}
 use Rattle.guest.specs.declared.Given.{Given}
 use Rattle.bzimage.specs.declared.Answer.the-variants.{Loaded, Refused}

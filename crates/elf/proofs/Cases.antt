@@ -16,9 +16,10 @@ use Rattle.guest.specs.Stream.{pour, streamAt}
 use Rattle.guest.specs.declared.Given.{Given}
 use Rattle.guest.specs.declared.Given.the-variants.{Nothing, At}
 use Rattle.guest.specs.declared.GuestAddress.{GuestAddress}
+use Rattle.reading.specs.Notes.{noteHeaderOf}
 use Rattle.elf.specs.Header.{magic, standWithin, gateOf}
 use Rattle.elf.specs.ProgramHeaders.{headerAt}
-use Rattle.elf.specs.Notes.{noteHeaderOf, isWanted, skipOf, turnAt, walkFrom, walkOf, withoutNote, saidOf, entryOf, told, publicNote}
+use Rattle.elf.specs.Notes.{isWanted, skipOf, turnAt, walkFrom, walkOf, saidOf, entryOf, told, publicNote}
 use Rattle.elf.specs.Survey.{segmentStep, noteStep, stepOf, advanced, surveyFrom, planOf}
 use Rattle.elf.specs.Pouring.{segmentStream, streamFrom, streamOf, poured}
 use Rattle.elf.specs.Load.{answerOf}
@@ -66,7 +67,7 @@ pub data Reply : Type 0 where
   walks : ElfNote → Reply
 
 unfoldable pub reply : Ask → Reply
-unfolding e1 note pick asked le liesWithin tagAt amountOf isGiven room allowed pour streamAt standWithin gateOf headerAt noteHeaderOf isWanted skipOf turnAt walkFrom walkOf withoutNote saidOf entryOf told publicNote segmentStep noteStep stepOf advanced surveyFrom planOf segmentStream streamFrom streamOf
+unfolding e1 note pick asked le liesWithin tagAt amountOf isGiven room allowed pour streamAt standWithin gateOf headerAt noteHeaderOf isWanted skipOf turnAt walkFrom walkOf saidOf entryOf told publicNote segmentStep noteStep stepOf advanced surveyFrom planOf segmentStream streamFrom streamOf
 reply (Load size offset highmem) = loads (answerOf e1 size offset highmem) (poured e1 offset highmem (zeros size))
 reply (Walk size) = walks (publicNote note (record { 0 = 0 }) size)
 

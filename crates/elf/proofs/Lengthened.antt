@@ -27,9 +27,10 @@ use Rattle.guest.specs.Sizes.{allowed}
 use Rattle.guest.specs.declared.Given.{Given}
 use Rattle.guest.specs.declared.ImagePlace.{ImagePlace}
 use Rattle.guest.proofs.RoomLaws.{room-grows}
+use Rattle.reading.specs.Notes.{noteHeaderOf}
 use Rattle.elf.specs.Header.{headerSize, programHeaderSize, magic, e-phoff, e-phnum, standWithin, fieldTests, tests, gateOf}
 use Rattle.elf.specs.ProgramHeaders.{headerPlace, headerAt, headerOf, HeadersStand}
-use Rattle.elf.specs.Notes.{noteHeaderSize, noteHeaderOf, xen, turnAt, afterTurn, walkFrom, twelves, walkOf, withoutNote, saidOf, entryOf}
+use Rattle.elf.specs.Notes.{noteHeaderSize, xen, turnAt, afterTurn, walkFrom, twelves, walkOf, saidOf, entryOf}
 use Rattle.elf.specs.Survey.{segmentStep, saidStep, noteStep, stepOf, advanced, blank, afterStep, surveyFrom, afterGate, loadAddress, planOf}
 use Rattle.elf.specs.Lengthening.{ForBytes, header, program-header, segment, note, RefusedFor, refused-for}
 use Rattle.elf.specs.declared.KernelLoaderResult.{KernelLoaderResult}
@@ -169,7 +170,7 @@ module _ (s t : List ℕ) (Lifts : Refusal → Type 0) (lifts : (r : Refusal) �
   said-longer (walk.Refused r) = same
 
   said-of : {w w' : Walked} → Keeps (LiftWalked Lifts) w w' → Keeps (LiftSaid Lifts) (saidOf s (w .walk)) (saidOf (s ++ t) (w' .walk))
-  unfolding saidOf withoutNote
+  unfolding saidOf
   said-of {w} same = said-longer (w .walk)
   said-of (lifted (lift-walked l)) = lifted (lift-said l)
 

@@ -8,9 +8,9 @@ use native.Mathlib.Nat.{pow-suc, one-le-pow, pow-le-pow-right, lt-of-lt-of-le, m
 use lib.Arith.{mod-mul}
 use lib.ListN.{length, getD, set, List·getD-append, List·getD-eq-default}
 use lib.Seq.{sets}
-use Rattle.fields.specs.Numbers.{le, ReadAs, leBytes, BytesAt, a-byte}
+use Rattle.fields.specs.Numbers.{le, ReadAs, leBytes, HasBytes, a-byte}
 use Rattle.fields.proofs.CopyingLaws.{sets-out, sets-none}
-use Rattle.fields.proofs.BytesAtLaws.{stored-at}
+use Rattle.fields.proofs.HasBytesLaws.{stored-at}
 
 -- a number of one byte is the byte
 pub le-one : (s : List ℕ) (p : ℕ) → le 1 s p ≡ getD s p 0
@@ -74,7 +74,7 @@ length-le-bytes zero v = refl
 length-le-bytes (suc n) v = ap suc (length-le-bytes n (v / 256))
 
 -- from its n low bytes a number reads back as far as they hold it
-pub le-low : (n v : ℕ) (s : List ℕ) (p : ℕ) → BytesAt s p (leBytes n v) → le n s p ≡ v % 256 ^ n
+pub le-low : (n v : ℕ) (s : List ℕ) (p : ℕ) → HasBytes s p (leBytes n v) → le n s p ≡ v % 256 ^ n
 unfolding le leBytes
 le-low zero v s p here = sym (mod-one v)
 le-low (suc n) v s p (a-byte b rest) =
@@ -83,7 +83,7 @@ le-low (suc n) v s p (a-byte b rest) =
     rw (pow-suc 256 n) (omega arith)
 
 -- and whole where it fits
-pub le-bytes : (n v : ℕ) (s : List ℕ) (p : ℕ) → v < 256 ^ n → BytesAt s p (leBytes n v) → le n s p ≡ v
+pub le-bytes : (n v : ℕ) (s : List ℕ) (p : ℕ) → v < 256 ^ n → HasBytes s p (leBytes n v) → le n s p ≡ v
 le-bytes n v s p h here = le-low n v s p here ∙ mod-eq-of-lt h
 
 -- what was written is read back
