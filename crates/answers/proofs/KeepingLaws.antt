@@ -1,13 +1,13 @@
 -- Laws of what is kept: through a pick, a map, a row of tests.
 use mathlib.Core.Path.{_≡_, sym, _∙_, refl, subst, subst⁻¹, subst₂}
 use mathlib.Core.Bool.{Bool, true, false}
-use mathlib.Core.List.{List}
+use mathlib.Core.List.{List, [], _∷_, _++_}
 use Prim.Native.Nat.{ℕ, _≤_}
 use native.Mathlib.Omega.{arith}
 use borrow.Author.Tests.{leb-true, le-leb}
 use lib.Dec.{leb}
 use Rattle.answers.specs.Pick.{pick}
-use Rattle.answers.specs.Tests.{Test, askedAll}
+use Rattle.answers.specs.Tests.{Test, askedAll, AllHold}
 use Rattle.answers.specs.Keeping.{Keeps, same, lifted, ShutBy, shut-by, Widens, end, stays, grows}
 use Rattle.answers.specs.declared.Refusal.{Refusal}
 use Rattle.answers.specs.declared.Gate.the-variants.{Open}
@@ -61,3 +61,14 @@ module _ (Lifts : Refusal → Type 0) where
       by-first (b, refusal) ts
       (λ held. keeps-as (ShutBy Lifts) (first-held (b, refusal) ts held) (first-held (b', refusal) ts' (comes held)) (row-keeps (rest held)))
       (λ failed. keeps-as (ShutBy Lifts) (first-failed (b, refusal) ts failed) refl (lifted (shut-by l)))
+
+  -- one row after another: what follows need be shown only where the first row held
+  pub widens-append : {ts ts' us us' : List Test} → Widens Lifts ts ts' → (AllHold ts → Widens Lifts us us') → Widens Lifts (ts ++ us) (ts' ++ us')
+  widens-append end rest = rest tt
+  widens-append (stays e more) rest = stays e (λ held. widens-append (more held) (λ all. rest (held, all)))
+  widens-append (grows comes l more) rest = grows comes l (λ held. widens-append (more held) (λ all. rest (held, all)))
+
+  -- a row that stays as it is
+  pub widens-same : (ts : List Test) → Widens Lifts ts ts
+  widens-same [] = end
+  widens-same ((b, refusal) ∷ ts) = stays refl (λ _. widens-same ts)

@@ -3,11 +3,12 @@
 use Prim.Native.Nat.{ℕ}
 use mathlib.Core.Path.{_≡_, sym, _∙_, refl, ap}
 use mathlib.Core.Bool.{Bool, true, false}
-use mathlib.Core.List.{List, [], _∷_}
+use mathlib.Core.List.{List, [], _∷_, _++_}
 use native.Mathlib.Omega.{arith}
 use Rattle.answers.specs.Pick.{pick}
 use Rattle.answers.specs.Tests.{Test, asked, askedAll, AllHold, FirstFails, here, later}
 use Rattle.answers.specs.declared.Refusal.{Refusal}
+use Rattle.answers.specs.declared.Gate.{Gate}
 use Rattle.answers.specs.declared.Gate.the-variants.{Open, Shut}
 
 -- a gate that is shut stays so
@@ -61,3 +62,30 @@ shut-first (t ∷ ts) refusal e =
 pub first-shut : (ts : List Test) (refusal : Refusal) → FirstFails refusal ts → askedAll Open ts ≡ Shut refusal
 first-shut (t ∷ ts) refusal (here f e) = first-failed t ts f ∙ ap Shut e
 first-shut (t ∷ ts) refusal (later h rest) = first-held t ts h ∙ first-shut ts refusal rest
+
+-- ---- one row after another
+
+pub asked-append : (gate : Gate) (ts us : List Test) → askedAll gate (ts ++ us) ≡ askedAll (askedAll gate ts) us
+asked-append gate [] us = refl
+asked-append gate (t ∷ ts) us = asked-append (asked gate (t .0) (t .1)) ts us
+
+pub hold-left : (ts us : List Test) → AllHold (ts ++ us) → AllHold ts
+hold-left [] us h = tt
+hold-left (t ∷ ts) us h = (h .0, hold-left ts us (h .1))
+
+pub hold-right : (ts us : List Test) → AllHold (ts ++ us) → AllHold us
+hold-right [] us h = h
+hold-right (t ∷ ts) us h = hold-right ts us (h .1)
+
+pub hold-append : (ts us : List Test) → AllHold ts → AllHold us → AllHold (ts ++ us)
+hold-append [] us h k = k
+hold-append (t ∷ ts) us h k = (h .0, hold-append ts us (h .1) k)
+
+-- a test that fails in the first row, or in the second after all of the first held
+pub fails-left : {r : Refusal} (ts us : List Test) → FirstFails r ts → FirstFails r (ts ++ us)
+fails-left (t ∷ ts) us (here f e) = here f e
+fails-left (t ∷ ts) us (later h rest) = later h (fails-left ts us rest)
+
+pub fails-right : {r : Refusal} (ts us : List Test) → AllHold ts → FirstFails r us → FirstFails r (ts ++ us)
+fails-right [] us h f = f
+fails-right (t ∷ ts) us h f = later (h .0) (fails-right ts us (h .1) f)

@@ -12,22 +12,16 @@ use Rattle.fields.proofs.CopyingLaws.{sets-outside}
 use Rattle.fields.proofs.HasBytesLaws.{stored-at}
 use Rattle.fields.proofs.NumbersLaws.{length-le-bytes, le-low}
 use Rattle.guest.specs.declared.Given.{Given}
+use Rattle.guest.specs.Loading.{Plan}
+use Rattle.guest.specs.Room.{memoryOf}
 use Rattle.bzimage.specs.declared.Answer.the-variants.{Loaded, Refused}
 use Rattle.bzimage.specs.declared.KernelLoaderResult.{KernelLoaderResult}
 use Rattle.bzimage.specs.declared.Outcome.{Outcome}
 use Rattle.bzimage.specs.SetupHeader.{headerSize, headerStart, code32Start}
 use Rattle.bzimage.specs.Header.{bytesFrom, headerRead, headerOf}
-use Rattle.bzimage.specs.Plan.{loadedAt, refusedAs, Loads}
-use Rattle.bzimage.proofs.PlanLaws.{loaded-outcome, refused-outcome}
-
--- where code32_start stands in the header
-abbrev pub startAt : ℕ
-startAt = code32Start - headerStart
-
-pub record Returned (image : List ℕ) (load : ℕ) (header : List ℕ) : Type 0 where
-  pub as-long : length header ≡ headerSize
-  pub as-read : (i : ℕ) → i < headerSize → (startAt ≤ i → i < startAt + 4 → ⊥) → getD header i 0 ≡ getD image (headerStart + i) 0
-  pub start : le 4 header startAt ≡ load % 2 ^ 32
+use Rattle.bzimage.specs.Plan.{loadedAt, refusedAs, planOf, KernelLoads}
+use Rattle.bzimage.specs.Returned.{startAt, Returned}
+use Rattle.bzimage.proofs.PlanLaws.{loaded-plan, refused-plan}
 
 -- ---- the bytes as read
 
@@ -58,16 +52,19 @@ header-returned image load =
 
 -- ---- of the load's contract
 
-module _ (image : List ℕ) (offset highmem : Given) (guest : List ℕ) {r : Outcome} {after : List ℕ} (loads : Loads image offset highmem guest r after) where
+module _ (image : List ℕ) (offset highmem : Given) (guest : List ℕ) {r : Outcome} {after : List ℕ} (loads : KernelLoads image offset highmem guest r after) where
+  planned : planOf image (memoryOf guest) offset highmem .answer .answer ≡ r .answer
+  planned = sym (ap (λ (o : Outcome). o .answer) (loads .answer))
+
   pub accepted-header : {k : KernelLoaderResult} → r .answer ≡ Loaded k → Returned image (k .«kernel_load» .0) (r .«setup_header»)
   unfolding loadedAt
   accepted-header {k} e =
-      let loaded = loaded-outcome image (length guest) offset highmem (sym (ap (λ (o : Outcome). o .answer) (loads .outcome)) ∙ e) in
-      subst⁻¹ (Returned image (k .«kernel_load» .0)) (ap (λ (o : Outcome). o .«setup_header») (loads .outcome ∙ loaded))
+      let loaded = ap (λ (p : Plan Outcome). p .answer) (loaded-plan image (memoryOf guest) offset highmem (planned ∙ e)) in
+      subst⁻¹ (Returned image (k .«kernel_load» .0)) (ap (λ (o : Outcome). o .«setup_header») (loads .answer ∙ loaded))
       (header-returned image (k .«kernel_load» .0))
 
   pub refused-header : {refusal : Refusal} → r .answer ≡ Refused refusal → r .«setup_header» ≡ replicate headerSize 0
   unfolding refusedAs
   refused-header e =
-      let refused = refused-outcome image (length guest) offset highmem (sym (ap (λ (o : Outcome). o .answer) (loads .outcome)) ∙ e) in
-      ap (λ (o : Outcome). o .«setup_header») (loads .outcome ∙ refused)
+      let refused = ap (λ (p : Plan Outcome). p .answer) (refused-plan image (memoryOf guest) offset highmem (planned ∙ e)) in
+      ap (λ (o : Outcome). o .«setup_header») (loads .answer ∙ refused)

@@ -13,7 +13,7 @@ use Rattle.answers.specs.Tests.{Test, AllHold}
 use Rattle.answers.specs.declared.Refusal.the-variants as refusal
 use Rattle.answers.specs.declared.Gate.{Gate}
 use Rattle.answers.specs.declared.Gate.the-variants.{Open, Shut}
-use Rattle.answers.proofs.TestsLaws.{open-all}
+use Rattle.answers.proofs.TestsLaws.{open-all, hold-right}
 use Rattle.cmdline.specs.declared.Answer.the-variants.{Accepted}
 use Rattle.cmdline.specs.declared.DeviceId.{DeviceId}
 use Rattle.slugs.specs.Trimming.{trim}
@@ -21,14 +21,13 @@ use Rattle.slugs.specs.Bytes.{equals}
 use Rattle.slugs.specs.Keys.{keyTests}
 use Rattle.slugs.specs.Values.{valueTests, pair}
 use Rattle.cmdline.specs.Text.{Text, sizeOf, counted, bootGap, initGap}
-use Rattle.cmdline.specs.Insertion.{Plan, gateOf, answerOf, settled, insert, insertStr, insertInitArgs, insertMultiple}
+use Rattle.cmdline.specs.Insertion.{Plan, planGate, answerOf, settled, insert, insertStr, insertInitArgs, insertMultiple}
 use Rattle.slugs.specs.Lists.{listed, listPre}
 use Rattle.cmdline.specs.Device.{deviceText, addDevice}
 use Rattle.cmdline.specs.Making.{new, parted, tryFrom}
 use Rattle.cmdline.specs.Calls
 use Rattle.cmdline.proofs.TextLaws.{joined-long, size-after-boot, size-after-init}
 use Rattle.cmdline.proofs.MakingLaws.{allowed-least}
-use Rattle.slugs.proofs.RowsLaws.{hold-right}
 
 -- a line fits: its counted size is within its capacity
 abbrev pub Fits : Text → Type 0
@@ -76,10 +75,10 @@ from-fits s c hold = leb-true (counted (parted s c)) c (hold .1 .0)
 
 -- ---- whether a call is accepted or refused
 
-pub settled-fits : (t : Text) (p : Plan) → (AllHold (p .tests) → Fits (p .text)) → Fits t → Fits (settled (gateOf p) t (p .text))
-settled-fits t p told f = split (gateOf p) refl
+pub settled-fits : (t : Text) (p : Plan) → (AllHold (p .tests) → Fits (p .text)) → Fits t → Fits (settled (planGate p) t (p .text))
+settled-fits t p told f = split (planGate p) refl
   where
-    split : (g : Gate) → gateOf p ≡ g → Fits (settled g t (p .text))
+    split : (g : Gate) → planGate p ≡ g → Fits (settled g t (p .text))
     split Open e = told (open-all (p .tests) e)
     split (Shut r) e = f
 
@@ -99,10 +98,10 @@ calls-fit [] t f = f
 calls-fit (k ∷ ks) t f = calls-fit ks (Calls.calling k t .text) (call-fits k t f)
 
 -- a making that says that it is accepted
-pub made-fits : (p : Plan) (t : Text) → (AllHold (p .tests) → Fits (p .text)) → answerOf (gateOf p) ≡ Accepted → Fits (settled (gateOf p) t (p .text))
-made-fits p t told e = split (gateOf p) refl e
+pub made-fits : (p : Plan) (t : Text) → (AllHold (p .tests) → Fits (p .text)) → answerOf (planGate p) ≡ Accepted → Fits (settled (planGate p) t (p .text))
+made-fits p t told e = split (planGate p) refl e
   where
-    split : (g : Gate) → gateOf p ≡ g → answerOf g ≡ Accepted → Fits (settled g t (p .text))
+    split : (g : Gate) → planGate p ≡ g → answerOf g ≡ Accepted → Fits (settled g t (p .text))
     split Open o a = told (open-all (p .tests) o)
     split (Shut r) o a = let z : _≡_ {A = ℕ} 0 1 = cc in absurd (omega arith)
 

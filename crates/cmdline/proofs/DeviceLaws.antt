@@ -56,15 +56,3 @@ pub id-number : {d left : List ℕ} {at r : ℕ} (id : DeviceId) (x : ℕ) → i
     → (Stored d at (idText id) left r) × (length (idText id) ≤ 11)
 unfolding idText
 id-number id x e h w = rw e (w, let few = decimal-few x h in omega arith)
-
--- ---- asked
-
-module _ (l : Cmdline) (n b i : ℕ) (id : DeviceId) where
-  pub device-zero : {r : Reply} → n ≡ 0 → r ≡ settledReply (Shut refusal.MmioSize) l l → r ≡ replyOf l (addDevice (textOf l) n b i id)
-  unfolding addDevice asked pick
-  device-zero e er = er ∙ rw e (ap (λ (g : Gate). settledReply g l (holding l (addDevice (textOf l) 0 b i id .text))) (sym (shut-stays (insertStr (textOf l) (deviceText 0 b i id) .tests) refusal.MmioSize)))
-
-  pub device-slug : {s : List ℕ} {r : Reply} → (n ≡ 0 → ⊥) → s ≡ deviceText n b i id → r ≡ replyOf l (insertStr (textOf l) s)
-      → r ≡ replyOf l (addDevice (textOf l) n b i id)
-  unfolding addDevice asked pick
-  device-slug some es er = er ∙ rw (ne-eqb n 0 some, es)

@@ -13,12 +13,12 @@ use Rattle.answers.specs.Tests.{asked}
 use Rattle.answers.specs.declared.Refusal.the-variants as refusal
 use Rattle.answers.specs.declared.Gate.{Gate}
 use Rattle.answers.specs.declared.Gate.the-variants.{Open, Shut}
+use Rattle.answers.proofs.TestsLaws.{asked-append}
 use Rattle.cmdline.specs.declared.Written.the-variants as written
 use Rattle.slugs.specs.Bytes.{has}
 use Rattle.cmdline.specs.Text.{Text}
-use Rattle.cmdline.specs.Writing.{whole, headed, textTests, textGate, writeGate, writtenOf, bytesOf, sameBytes, sameAnswer, sameLine}
+use Rattle.cmdline.specs.Writing.{whole, headed, textTests, textGate, writeGate, writtenOf, writtenBytes, sameBytes, sameAnswer, sameLine}
 use Rattle.slugs.proofs.BytesLaws.{both-left, both-right}
-use Rattle.slugs.proofs.RowsLaws.{all-append}
 
 -- ---- texts
 
@@ -60,7 +60,7 @@ snoc-same (x ∷ xs) (y ∷ ys) z e =
 given-room : (t : Text) (room : ℕ) → length (whole t) + 1 ≤ room → writeGate t room ≡ textGate t
 unfolding asked pick
 given-room t room h =
-    all-append Open (textTests (t .boot) (t .init)) ((leb (length (whole t) + 1) room, refusal.NoRoom) ∷ [])
+    asked-append Open (textTests (t .boot) (t .init)) ((leb (length (whole t) + 1) room, refusal.NoRoom) ∷ [])
     ∙ rw (le-leb (length (whole t) + 1) room h) (split (textGate t))
   where
     split : (g : Gate) → asked g true refusal.NoRoom ≡ g
@@ -86,7 +86,7 @@ told t = split (headed (length (t .boot)) (length (t .init))) (not (has 0 (whole
 -- the written answer and the bytes, by the gate
 pub record Answers (a b : Text) (g h : Gate) : Type 0 where
   pub answer : writtenOf g a ≡ writtenOf h b
-  pub bytes : bytesOf g a ≡ bytesOf h b
+  pub bytes : writtenBytes g a ≡ writtenBytes h b
 
 module _ (a b : Text) where
   forth : (g h : Gate) → Told g → Told h → sameAnswer g h (sameBytes (whole a) (whole b)) ≡ true → Answers a b g h

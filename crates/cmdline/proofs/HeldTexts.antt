@@ -15,7 +15,7 @@ use Rattle.cmdline.specs.declared.Cmdline.{Cmdline}
 use Rattle.cmdline.specs.declared.Answer.the-variants.{Accepted}
 use Rattle.cmdline.specs.Limit.{limit}
 use Rattle.cmdline.specs.Text.{Text, empty}
-use Rattle.cmdline.specs.Insertion.{Plan, gateOf, answerOf, settled, insert}
+use Rattle.cmdline.specs.Insertion.{Plan, planGate, answerOf, settled, insert}
 use Rattle.cmdline.specs.Held.{textOf, holding, blankLine, replyOf, madeOf}
 use Rattle.cmdline.specs.ZeroPast.{Buffers}
 use Rattle.cmdline.specs.Growing.{Extends}
@@ -59,10 +59,10 @@ holds-texts l t b s =
 
 -- the texts of the line in a reply
 pub reply-texts : (l : Cmdline) (p : Plan) → Buffers l → (AllHold (p .tests) → Fits (p .text)) → Extends (textOf l) (p .text)
-    → textOf (replyOf l p .line) ≡ settled (gateOf p) (textOf l) (p .text)
-reply-texts l p b told e = split (gateOf p) refl
+    → textOf (replyOf l p .line) ≡ settled (planGate p) (textOf l) (p .text)
+reply-texts l p b told e = split (planGate p) refl
   where
-    split : (g : Gate) → gateOf p ≡ g → textOf (settled g l (holding l (p .text))) ≡ settled g (textOf l) (p .text)
+    split : (g : Gate) → planGate p ≡ g → textOf (settled g l (holding l (p .text))) ≡ settled g (textOf l) (p .text)
     split Open o =
         let cap = e .capacity in
         holds-texts l (p .text) b (fits-short (p .text) (told (open-all (p .tests) o)) (omega arith))
@@ -73,17 +73,17 @@ blank-buffers c = record { boot = length-replicate {A = ℕ} limit 0; init = len
 
 -- and of a line that is made
 pub made-texts : (p : Plan) → (AllHold (p .tests) → Fits (p .text)) → (AllHold (p .tests) → p .text .capacity ≤ limit)
-    → textOf (madeOf p .line) ≡ settled (gateOf p) (empty 0) (p .text)
-made-texts p told cap = split (gateOf p) refl
+    → textOf (madeOf p .line) ≡ settled (planGate p) (empty 0) (p .text)
+made-texts p told cap = split (planGate p) refl
   where
-    split : (g : Gate) → gateOf p ≡ g → textOf (settled g (blankLine 0) (holding (blankLine 0) (p .text))) ≡ settled g (empty 0) (p .text)
+    split : (g : Gate) → planGate p ≡ g → textOf (settled g (blankLine 0) (holding (blankLine 0) (p .text))) ≡ settled g (empty 0) (p .text)
     split Open o =
         let hold = open-all (p .tests) o in
         holds-texts (blankLine 0) (p .text) (blank-buffers 0) (fits-short (p .text) (told hold) (cap hold))
     split (Shut r) o = refl
 
 -- the texts of an accepted call fit the buffers
-pub accepted-short : (l : Cmdline) (p : Plan) → (AllHold (p .tests) → Fits (p .text)) → Extends (textOf l) (p .text) → gateOf p ≡ Open → Short (p .text)
+pub accepted-short : (l : Cmdline) (p : Plan) → (AllHold (p .tests) → Fits (p .text)) → Extends (textOf l) (p .text) → planGate p ≡ Open → Short (p .text)
 accepted-short l p told e o = let cap = e .capacity in fits-short (p .text) (told (open-all (p .tests) o)) (omega arith)
 
 -- so the counted size of a line in a reply is within its capacity where that of the line before was, and where the call is accepted
@@ -105,7 +105,7 @@ pub inserted-line : (l : Cmdline) (key value : List ℕ) → Buffers l → reply
 inserted-line l key value b e =
     let t = textOf l in
     let p = insert t key value in
-    let open-gate = accepted-open (gateOf p) e in
+    let open-gate = accepted-open (planGate p) e in
     subst⁻¹ (λ (u : Text). Inserted t u key value)
     (reply-texts l p b (insert-fits t key value) (insert-extends t key value) ∙ ap (λ (g : Gate). settled g t (p .text)) open-gate)
     (inserted-pair t key value open-gate)

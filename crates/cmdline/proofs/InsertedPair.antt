@@ -5,15 +5,14 @@ use mathlib.Core.Path.{_≡_, refl}
 use mathlib.Core.List.{List, _++_}
 use lib.ListN.{length}
 use Rattle.answers.specs.declared.Gate.the-variants.{Open}
-use Rattle.answers.proofs.TestsLaws.{open-all}
+use Rattle.answers.proofs.TestsLaws.{open-all, hold-left}
 use Rattle.slugs.specs.Keys.{keyTests}
 use Rattle.slugs.specs.Values.{valueTests, pair}
 use Rattle.cmdline.specs.Text.{Text, counted, bootGap}
-use Rattle.cmdline.specs.Insertion.{gateOf, insert, insertStr}
+use Rattle.cmdline.specs.Insertion.{planGate, insert, insertStr}
 use Rattle.cmdline.proofs.TextLaws.{joined-long, size-after-boot}
 use Rattle.slugs.proofs.ValuesLaws.{pair-told}
 use Rattle.slugs.specs.Joining.{joined}
-use Rattle.slugs.proofs.RowsLaws.{hold-left}
 
 pub record Inserted (t u : Text) (key value : List ℕ) : Type 0 where
   -- the pair stands after what stood there, with a space between if there was text
@@ -23,7 +22,7 @@ pub record Inserted (t u : Text) (key value : List ℕ) : Type 0 where
   -- and is counted as it stands
   pub size : counted u ≡ counted t + bootGap (length (t .boot)) + length (pair key value)
 
-pub inserted-pair : (t : Text) (key value : List ℕ) → gateOf (insert t key value) ≡ Open → Inserted t (insert t key value .text) key value
+pub inserted-pair : (t : Text) (key value : List ℕ) → planGate (insert t key value) ≡ Open → Inserted t (insert t key value .text) key value
 unfolding insert insertStr
 inserted-pair t key value accepted =
     let hold = open-all (insert t key value .tests) accepted in

@@ -20,11 +20,11 @@ use Rattle.slugs.specs.Bytes.{equals}
 use Rattle.slugs.specs.Keys.{keyTests}
 use Rattle.slugs.specs.Values.{valueTests, pair}
 use Rattle.cmdline.specs.Text.{Text, counted, bootGap, initGap}
-use Rattle.cmdline.specs.Insertion.{Plan, gateOf, answerOf, settled, insert, insertStr, insertInitArgs, insertMultiple}
+use Rattle.cmdline.specs.Insertion.{Plan, planGate, answerOf, settled, insert, insertStr, insertInitArgs, insertMultiple}
 use Rattle.slugs.specs.Lists.{listed, listPre}
 use Rattle.cmdline.specs.Device.{deviceText, addDevice}
 use Rattle.cmdline.specs.Making.{new, parted, tryFrom}
-use Rattle.cmdline.specs.Writing.{writeGate, writtenOf, bytesOf}
+use Rattle.cmdline.specs.Writing.{writeGate, writtenOf, writtenBytes}
 use Rattle.cmdline.specs.Calls
 
 -- the same texts under another capacity
@@ -52,7 +52,7 @@ same-gate ts ts' w none = kept (ShutBy Calls.ForRoom) (row-keeps Calls.ForRoom w
 module _ (c : ℕ) (t : Text) (p p' : Plan) where
   same-planned : Widens Calls.ForRoom (p .tests) (p' .tests) → p' .text ≡ under c (p .text) → (Calls.RefusedForRoom (Calls.planned p t .said) → ⊥)
       → Calls.planned p' (under c t) ≡ same-step c (Calls.planned p t)
-  same-planned w e none = rw (same-gate (p .tests) (p' .tests) w none, e) (split (gateOf p))
+  same-planned w e none = rw (same-gate (p .tests) (p' .tests) w none, e) (split (planGate p))
     where
       split : (g : Gate) → _≡_ {A = Calls.Step}
           (record { said = Calls.answered (answerOf g); text = settled g (under c t) (under c (p .text)) })
@@ -61,7 +61,7 @@ module _ (c : ℕ) (t : Text) (p p' : Plan) where
       split (Shut r) = refl
 
   same-capacity : p .text .capacity ≡ t .capacity → Calls.planned p t .text .capacity ≡ t .capacity
-  same-capacity e = split (gateOf p)
+  same-capacity e = split (planGate p)
     where
       split : (g : Gate) → settled g t (p .text) .capacity ≡ t .capacity
       split Open = e
@@ -69,7 +69,7 @@ module _ (c : ℕ) (t : Text) (p p' : Plan) where
 
 -- what is written has nothing to do with the capacity
 same-written : (c : ℕ) (t : Text) (g : Gate)
-    → _≡_ {A = Calls.Said} (Calls.wrote (writtenOf g (under c t)) (bytesOf g (under c t))) (Calls.wrote (writtenOf g t) (bytesOf g t))
+    → _≡_ {A = Calls.Said} (Calls.wrote (writtenOf g (under c t)) (writtenBytes g (under c t))) (Calls.wrote (writtenOf g t) (writtenBytes g t))
 same-written c t Open = refl
 same-written c t (Shut r) = refl
 

@@ -2,6 +2,7 @@ pub mod TextLaws
 pub mod PlanLaws
 pub mod WritingLaws
 pub mod HeldLaws
+pub mod InPlaceLaws
 pub mod DigitsLaws
 pub mod DeviceFits
 pub mod DeviceLaws

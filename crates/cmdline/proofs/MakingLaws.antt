@@ -5,9 +5,9 @@ use mathlib.Core.Bool.{Bool, true}
 use mathlib.Core.List.{List, [], _∷_}
 use native.Mathlib.Omega.{arith}
 use lib.Dec.{leb}
-use lib.ListN.{length, take, drop, replicate}
+use lib.ListN.{length, take, drop, replicate, length-replicate}
 use borrow.Author.Tests.{leb-true}
-use Rattle.answers.specs.Tests.{asked, AllHold}
+use Rattle.answers.specs.Tests.{asked, askedAll, AllHold}
 use Rattle.answers.specs.declared.Refusal.the-variants as refusal
 use Rattle.answers.specs.declared.Gate.{Gate}
 use Rattle.answers.specs.declared.Gate.the-variants.{Open}
@@ -17,12 +17,11 @@ use Rattle.cmdline.specs.Limit.{limit, allowed}
 use Rattle.cmdline.specs.Text.{sizeOf, counted}
 use Rattle.slugs.specs.Trimming.{trim}
 use Rattle.slugs.specs.Splitting.{splitAt, bootPart, initPart}
-use Rattle.cmdline.specs.Making.{new, parted, tryFrom}
+use Rattle.cmdline.specs.Making.{new, parted, sizeTests, tryFrom}
 use Rattle.slugs.specs.Stored.{Stored}
 use Rattle.cmdline.specs.Held.{blankLine, clampedLine, holding, settledReply, madeOf}
 use Rattle.slugs.proofs.BytesLaws.{both-left, both-right}
-use Rattle.cmdline.proofs.TextLaws.{size-boot, size-init, size-clipped}
-use Rattle.cmdline.proofs.PlanLaws.{asked-where}
+use Rattle.cmdline.proofs.TextLaws.{size-boot, size-init}
 use Rattle.cmdline.proofs.HeldLaws.{settles}
 
 pub allowed-most : (c : ℕ) → allowed c ≡ true → c ≤ limit
@@ -57,26 +56,23 @@ module _ (raw : List ℕ) (c at : ℕ) (place : at ≡ splitAt raw) (before afte
   init-is : after ≡ initPart raw
   init-is = rw (← place, ← later) second
 
-  pub from-reply : {a : Bool} {g h : Gate} {m n p q k : ℕ} {d f : List ℕ} {x next : Cmdline} {r : Reply} → a ≡ allowed c
-      → g ≡ asked Open a refusal.InvalidCapacity → m ≡ min (length before) limit → n ≡ min (length after) limit → k ≡ sizeOf m n
-      → h ≡ asked g (leb k c) refusal.InvalidCapacity → Stored (replicate limit 0) 0 before d p → Stored (replicate limit 0) 0 after f q
-      → x ≡ blankLine 0 → next ≡ clampedLine d m f n c → r ≡ settledReply h x next → r ≡ madeOf (tryFrom raw c)
+  pub from-reply : {h : Gate} {m n : ℕ} {d f : List ℕ} {x next : Cmdline} {r : Reply} → h ≡ askedAll Open (sizeTests (length before) (length after) c)
+      → Stored (replicate limit 0) 0 before d m → Stored (replicate limit 0) 0 after f n → x ≡ blankLine 0 → next ≡ clampedLine d m f n c
+      → r ≡ settledReply h x next → r ≡ madeOf (tryFrom raw c)
   unfolding tryFrom
-  from-reply {a} {g} {h} {m} {n} {p} {q} {k} {d} {f} {x} {next} ea eg em en ek eh sd sf ex enext er =
+  from-reply {h} {m} {n} {d} {f} {x} {next} eh sd sf ex enext er =
       settles (blankLine 0) (holding (blankLine 0) (parted raw c)) (tryFrom raw c .tests) h next (er ∙ ap (λ (y : Cmdline). settledReply h y next) ex)
-      (eh ∙ rw (eg, ea, ek) (asked-where ((allowed c, refusal.InvalidCapacity) ∷ []) refusal.InvalidCapacity fits))
-      (λ hold. enext ∙ same hold)
+      (eh ∙ rw (boot-is, init-is)) (λ hold. enext ∙ same hold)
     where
-      fits : AllHold ((allowed c, refusal.InvalidCapacity) ∷ []) → leb (sizeOf m n) c ≡ leb (counted (parted raw c)) c
-      fits hold =
-          size-clipped (length before) (length after) c em en (allowed-most c (hold .0)) ∙ rw (← boot-is, ← init-is)
-
       same : AllHold (tryFrom raw c .tests) → clampedLine d m f n c ≡ holding (blankLine 0) (parted raw c)
       same hold =
           let top = allowed-most c (hold .0) in
-          let size : sizeOf (length before) (length after) ≤ c = rw (boot-is, init-is) (leb-true (counted (parted raw c)) c (hold .1 .0)) in
+          let size : sizeOf (length before) (length after) ≤ c = rw (boot-is, init-is) (leb-true (sizeOf (length (bootPart raw)) (length (initPart raw))) c (hold .1 .0)) in
           let b = size-boot (length before) (length after) in
           let i = size-init (length before) (length after) in
+          let room = length-replicate {A = ℕ} limit 0 in
+          let sp = sd .place in
+          let fp = sf .place in
           let mb : min m limit ≡ length before = omega arith in
           let nb : min n limit ≡ length after = omega arith in
           let cb : min c limit ≡ c = omega arith in

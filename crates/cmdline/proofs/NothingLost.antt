@@ -10,7 +10,7 @@ use Rattle.answers.specs.declared.Gate.the-variants.{Open, Shut}
 use Rattle.cmdline.specs.declared.DeviceId.{DeviceId}
 use Rattle.slugs.specs.Trimming.{trim}
 use Rattle.cmdline.specs.Text.{Text}
-use Rattle.cmdline.specs.Insertion.{Plan, gateOf, settled, insert, insertStr, insertInitArgs, insertMultiple}
+use Rattle.cmdline.specs.Insertion.{Plan, planGate, settled, insert, insertStr, insertInitArgs, insertMultiple}
 use Rattle.cmdline.specs.Device.{addDevice}
 use Rattle.cmdline.specs.Growing.{Begins, Extends}
 use Rattle.cmdline.specs.Calls
@@ -59,8 +59,8 @@ unfolding addDevice
 device-extends t size base irq id = str-extends t _
 
 -- whether it is accepted or refused
-settled-extends : (t : Text) (p : Plan) → Extends t (p .text) → Extends t (settled (gateOf p) t (p .text))
-settled-extends t p e = split (gateOf p)
+settled-extends : (t : Text) (p : Plan) → Extends t (p .text) → Extends t (settled (planGate p) t (p .text))
+settled-extends t p e = split (planGate p)
   where
     split : (g : Gate) → Extends t (settled g t (p .text))
     split Open = e

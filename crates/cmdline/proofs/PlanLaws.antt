@@ -15,7 +15,6 @@ use Rattle.slugs.specs.Bytes.{printable, every}
 use Rattle.slugs.specs.Trimming.{trim}
 use Rattle.cmdline.specs.Text.{Text, bootRoom}
 use Rattle.cmdline.specs.Insertion.{settled, insertStr}
-use Rattle.slugs.proofs.RowsLaws.{all-append}
 
 -- the new matters only where the gate is open
 pub settled-as : {A : Type 0} (g : Gate) (old : A) {a b : A} → (g ≡ Open → a ≡ b) → settled g old a ≡ settled g old b
@@ -30,13 +29,3 @@ asked-where pre {a} {b} r told = split (askedAll Open pre) refl
     split : (g : Gate) → askedAll Open pre ≡ g → asked (askedAll Open pre) a r ≡ asked (askedAll Open pre) b r
     split Open e = ap (λ (x : Bool). asked (askedAll Open pre) x r) (told (open-all pre e))
     split (Shut s) e = rw e
-
--- a slug that its tests so far show to be trimmed and printable has only room left to ask
-pub room-left : (pre : List Test) (t : Text) (w : List ℕ) → (AllHold pre → (trim w ≡ w) × (every printable w ≡ true))
-    → asked (askedAll Open pre) (bootRoom t (length w)) refusal.TooLarge ≡ askedAll Open (pre ++ insertStr t w .tests)
-unfolding insertStr asked pick
-room-left pre t w told = split (askedAll Open pre) refl ∙ sym (all-append Open pre (insertStr t w .tests))
-  where
-    split : (g : Gate) → askedAll Open pre ≡ g → asked (askedAll Open pre) (bootRoom t (length w)) refusal.TooLarge ≡ askedAll (askedAll Open pre) (insertStr t w .tests)
-    split Open e = let f = told (open-all pre e) in rw (e, f .0, f .1)
-    split (Shut r) e = rw e

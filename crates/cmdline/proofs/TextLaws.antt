@@ -1,5 +1,5 @@
 -- Laws of the counted size, of what an insertion is charged, and of room.
-use Prim.Native.Nat.{ℕ, _+_, _≤_, min}
+use Prim.Native.Nat.{ℕ, _+_, _-_, _≤_, _<_, min}
 use mathlib.Core.Path.{_≡_, refl, sym, ap, _∙_}
 use mathlib.Core.Bool.{Bool, true, false}
 use mathlib.Core.List.{List, [], _∷_, _++_}
@@ -7,7 +7,7 @@ use native.Mathlib.Omega.{arith}
 use native.Mathlib.Decide.{decLe}
 use lib.Dec.{leb, eqb}
 use lib.ListN.{length, length-append}
-use borrow.Author.Tests.{lt-leb, eqb-true}
+use borrow.Author.Tests.{le-leb, lt-leb, eqb-true, ne-eqb}
 use Rattle.answers.specs.Pick.{pick}
 use Rattle.answers.proofs.PickLaws.{pick-with}
 use Rattle.cmdline.specs.Limit.{limit}
@@ -93,20 +93,20 @@ room-clipped size n c {m} e low high = split (decLe n limit)
     split (yes h) = ap (λ (k : ℕ). leb (size + k) c) (let same : m ≡ n = omega arith in same)
     split (no h) = lt-leb (size + m) c (omega arith) ∙ sym (lt-leb (size + n) c (omega arith))
 
--- and so do parts of a text that are above the limit
-pub size-clipped : (b i c : ℕ) {m n : ℕ} → m ≡ min b limit → n ≡ min i limit → c ≤ limit → leb (sizeOf m n) c ≡ leb (sizeOf b i) c
-size-clipped b i c {m} {n} em en high = split (decLe b limit) (decLe i limit)
-  where
-    split : Dec (b ≤ limit) → Dec (i ≤ limit) → leb (sizeOf m n) c ≡ leb (sizeOf b i) c
-    split (yes hb) (yes hi) =
-        let sb : m ≡ b = omega arith in
-        let si : n ≡ i = omega arith in
-        rw (sb, si)
-    split (no hb) di =
-        let x = size-boot m n in
-        let y = size-boot b i in
-        lt-leb (sizeOf m n) c (omega arith) ∙ sym (lt-leb (sizeOf b i) c (omega arith))
-    split (yes hb) (no hi) =
-        let x = size-init m n in
-        let y = size-init b i in
-        lt-leb (sizeOf m n) c (omega arith) ∙ sym (lt-leb (sizeOf b i) c (omega arith))
+-- ---- two lengths within a room, with nothing summed
+
+module _ (room b i : ℕ) where
+  pub fits-none : {r : Bool} → i ≡ 0 → r ≡ leb (b + 1) room → r ≡ leb (sizeOf b i) room
+  unfolding sizeOf pick
+  fits-none e er = er ∙ rw e (ap (λ (k : ℕ). leb k room) (let same : b + 1 ≡ b + 1 + 0 = omega arith in same))
+
+  pub fits-some : {r : Bool} → (i ≡ 0 → ⊥) → b < room → r ≡ leb (4 + i) (room - b - 1) → r ≡ leb (sizeOf b i) room
+  unfolding sizeOf pick
+  fits-some some h er = er ∙ rw (ne-eqb i 0 some) (split (decLe (4 + i) (room - b - 1)))
+    where
+      split : Dec (4 + i ≤ room - b - 1) → leb (4 + i) (room - b - 1) ≡ leb (b + 1 + (4 + i)) room
+      split (yes k) = le-leb (4 + i) (room - b - 1) k ∙ sym (le-leb (b + 1 + (4 + i)) room (omega arith))
+      split (no k) = lt-leb (4 + i) (room - b - 1) (omega arith) ∙ sym (lt-leb (b + 1 + (4 + i)) room (omega arith))
+
+  pub fits-not : room ≤ b → false ≡ leb (sizeOf b i) room
+  fits-not h = let size = size-boot b i in sym (lt-leb (sizeOf b i) room (omega arith))

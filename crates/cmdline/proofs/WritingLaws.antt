@@ -1,23 +1,28 @@
 -- Laws of the whole text of a line.
-use Prim.Native.Nat.{ℕ, suc, _+_, _-_, _≤_, _<_}
+use Prim.Native.Nat.{ℕ, suc, _+_, _-_, _≤_, _<_, min}
 use mathlib.Core.Path.{_≡_, refl, sym, ap, _∙_}
 use mathlib.Core.Bool.{Bool, true, false, not, _&&_, _||_}
 use mathlib.Core.List.{List, [], _∷_, _++_, append-nil}
 use native.Mathlib.Omega.{arith}
-use native.Mathlib.Decide.{ℕ-discrete}
-use lib.Dec.{eqb}
-use lib.ListN.{length, drop, getD, length-append, List·getD-append}
-use lib.Seq.{getD-append-add}
-use borrow.Author.Tests.{eq-eqb, ne-eqb}
+use native.Mathlib.Decide.{decLe, ℕ-discrete}
+use lib.Dec.{leb, eqb}
+use lib.ListN.{length, take, drop, getD, length-append, length-take, List·getD-append}
+use lib.Seq.{sets, take-all, getD-append-add}
+use borrow.Author.Tests.{leb-true, eq-eqb, ne-eqb}
 use Rattle.answers.specs.Pick.{pick}
-use Rattle.answers.specs.Tests.{asked, askedAll}
+use Rattle.answers.specs.Tests.{Test, asked, askedAll}
 use Rattle.answers.specs.declared.Refusal.{Refusal}
 use Rattle.answers.specs.declared.Refusal.the-variants as refusal
 use Rattle.answers.specs.declared.Gate.{Gate}
 use Rattle.answers.specs.declared.Gate.the-variants.{Open, Shut}
+use Rattle.answers.proofs.TestsLaws.{open-all, asked-append, hold-right}
 use Rattle.slugs.specs.Bytes.{has}
-use Rattle.cmdline.specs.Text.{sizeOf}
-use Rattle.cmdline.specs.Writing.{wholeOf, headed, textTests, sameBytes}
+use Rattle.slugs.specs.Stored.{Stored}
+use Rattle.cmdline.specs.declared.Written.{Written}
+use Rattle.cmdline.specs.declared.Written.the-variants as written
+use Rattle.cmdline.specs.Limit.{limit}
+use Rattle.cmdline.specs.Text.{Text, sizeOf}
+use Rattle.cmdline.specs.Writing.{bare, wholeOf, headed, textTests, writeGate, writtenOf, writtenBytes, Writes, sameBytes, sameLine}
 use Rattle.slugs.proofs.ListLaws.{here, gone}
 use Rattle.slugs.proofs.BytesLaws.{has-append}
 use Rattle.slugs.specs.Splitting.{separator}
@@ -140,3 +145,74 @@ same-lengths [] [] z = absurd (z refl)
 same-lengths [] (y ∷ ys) z = refl
 same-lengths (x ∷ xs) [] z = refl
 same-lengths (x ∷ xs) (y ∷ ys) z = rw (same-lengths xs ys (λ e. z (ap suc e))) (and-false (eqb x y))
+
+-- ---- a line that is written
+
+-- a text that is written whole, by how its tests end
+module _ (boot init out : List ℕ) {g h : Gate} {room : Bool} (text : g ≡ askedAll Open (textTests boot init))
+    (fits : room ≡ leb (sizeOf (length boot) (length init)) (length out)) (last : h ≡ asked g room refusal.NoRoom) where
+  abbrev room-test : Test
+  room-test = (leb (length (wholeOf boot init) + 1) (length out), refusal.NoRoom)
+
+  write-gate : h ≡ writeGate (bare boot init) (length out)
+  write-gate = last ∙ rw (text, fits, ← whole-size boot init) (sym (asked-append Open (textTests boot init) (room-test ∷ [])))
+
+  pub writes-refused : (r : Refusal) → h ≡ Shut r → Writes (bare boot init) out (written.Refused r) out
+  writes-refused r e =
+      let gate : Shut r ≡ writeGate (bare boot init) (length out) = sym e ∙ write-gate in
+      record {
+        answer = ap (λ (x : Gate). writtenOf x (bare boot init)) gate;
+        bytes = ap (λ (x : Gate). sets out 0 (writtenBytes x (bare boot init))) gate;
+      }
+
+  pub writes-whole : {left : List ℕ} {k : ℕ} → h ≡ Open → Stored out 0 (wholeOf boot init ++ (0 ∷ [])) left k
+      → Writes (bare boot init) out (written.Bytes k) left
+  writes-whole {left} {k} e w =
+      let gate : Open ≡ writeGate (bare boot init) (length out) = sym e ∙ write-gate in
+      let hold = open-all (textTests boot init ++ (room-test ∷ [])) (sym gate) in
+      let enough = leb-true (length (wholeOf boot init) + 1) (length out) (hold-right (textTests boot init) (room-test ∷ []) hold .0) in
+      let long = length-append (wholeOf boot init) (0 ∷ []) in
+      let place = w .place in
+      let count : k ≡ length (wholeOf boot init) + 1 = omega arith in
+      record {
+        answer = ap written.Bytes count ∙ ap (λ (x : Gate). writtenOf x (bare boot init)) gate;
+        bytes = w .bytes ∙ ap (λ (x : Gate). sets out 0 (writtenBytes x (bare boot init))) gate;
+      }
+
+-- the capacity of a line has no part in how it is written
+written-any : (t : Text) (g : Gate) → writtenOf g (bare (t .boot) (t .init)) ≡ writtenOf g t
+written-any t Open = refl
+written-any t (Shut r) = refl
+
+bytes-any : (t : Text) (g : Gate) → writtenBytes g (bare (t .boot) (t .init)) ≡ writtenBytes g t
+bytes-any t Open = refl
+bytes-any t (Shut r) = refl
+
+pub writes-any : (t : Text) {out left : List ℕ} {r : Written} → Writes (bare (t .boot) (t .init)) out r left → Writes t out r left
+writes-any t {out} w =
+    record {
+      answer = w .answer ∙ written-any t (writeGate t (length out));
+      bytes = w .bytes ∙ ap (λ (s : List ℕ). sets out 0 s) (bytes-any t (writeGate t (length out)));
+    }
+
+-- ---- lines that are compared
+
+pub clipped-take : (s : List ℕ) {n : ℕ} → n ≡ min (length s) limit → take n s ≡ take limit s
+clipped-take s {n} e = split (decLe limit (length s))
+  where
+    split : Dec (limit ≤ length s) → take n s ≡ take limit s
+    split (yes h) = ap (λ (k : ℕ). take k s) (let same : n ≡ limit = omega arith in same)
+    split (no h) = take-all n s (omega arith) ∙ sym (take-all limit s (omega arith))
+
+pub clipped-long : (s : List ℕ) {t : List ℕ} → t ≡ take limit s → length t ≤ limit
+clipped-long s e = let long = ap length e ∙ length-take limit s in omega arith
+
+-- a text that a line can hold is not clipped
+pub clipped-whole : (n : ℕ) (s : List ℕ) → take limit (take (min n limit) s) ≡ take (min n limit) s
+clipped-whole n s = let long = length-take (min n limit) s in take-all limit (take (min n limit) s) (omega arith)
+
+pub same-clipped : (p q u v : List ℕ) (n i m j : ℕ) {n' i' m' j' : ℕ} {r : Bool} → n' ≡ min n limit → i' ≡ min i limit → m' ≡ min m limit → j' ≡ min j limit
+    → r ≡ sameLine (bare (take limit (take n' p)) (take limit (take i' q))) (bare (take limit (take m' u)) (take limit (take j' v)))
+    → r ≡ sameLine (bare (take (min n limit) p) (take (min i limit) q)) (bare (take (min m limit) u) (take (min j limit) v))
+same-clipped p q u v n i m j en ei em ej er =
+    er ∙ rw (en, ei, em, ej, clipped-whole n p, clipped-whole i q, clipped-whole m u, clipped-whole j v)

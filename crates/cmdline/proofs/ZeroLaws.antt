@@ -13,7 +13,7 @@ use Rattle.answers.proofs.TestsLaws.{open-all}
 use Rattle.cmdline.specs.declared.Cmdline.{Cmdline}
 use Rattle.cmdline.specs.Limit.{limit}
 use Rattle.cmdline.specs.Text.{Text}
-use Rattle.cmdline.specs.Insertion.{Plan, gateOf, settled}
+use Rattle.cmdline.specs.Insertion.{Plan, planGate, settled}
 use Rattle.cmdline.specs.Held.{textOf, holding, blankLine, replyOf, madeOf}
 use Rattle.cmdline.specs.ZeroPast.{Buffers, ZeroPast}
 use Rattle.cmdline.specs.Growing.{Extends}
@@ -57,16 +57,16 @@ held-zero l t b z e s =
 
 pub reply-zero : (l : Cmdline) (p : Plan) → (AllHold (p .tests) → Fits (p .text)) → Extends (textOf l) (p .text) → Buffers l → ZeroPast l
     → ZeroPast (replyOf l p .line)
-reply-zero l p told e b z = split (gateOf p) refl
+reply-zero l p told e b z = split (planGate p) refl
   where
-    split : (g : Gate) → gateOf p ≡ g → ZeroPast (settled g l (holding l (p .text)))
+    split : (g : Gate) → planGate p ≡ g → ZeroPast (settled g l (holding l (p .text)))
     split Open o =
         let cap = e .capacity in
         held-zero l (p .text) b z e (fits-short (p .text) (told (open-all (p .tests) o)) (omega arith))
     split (Shut r) o = z
 
 pub reply-buffers : (l : Cmdline) (p : Plan) → Buffers l → Buffers (replyOf l p .line)
-reply-buffers l p b = split (gateOf p)
+reply-buffers l p b = split (planGate p)
   where
     split : (g : Gate) → Buffers (settled g l (holding l (p .text)))
     split Open = buffers-held l (p .text) b
@@ -76,9 +76,9 @@ pub made-buffers : (p : Plan) → Buffers (madeOf p .line)
 made-buffers p = reply-buffers (blankLine 0) p (blank-buffers 0)
 
 pub made-zero : (p : Plan) → (AllHold (p .tests) → Fits (p .text)) → (AllHold (p .tests) → p .text .capacity ≤ limit) → ZeroPast (madeOf p .line)
-made-zero p told cap = split (gateOf p) refl
+made-zero p told cap = split (planGate p) refl
   where
-    split : (g : Gate) → gateOf p ≡ g → ZeroPast (settled g (blankLine 0) (holding (blankLine 0) (p .text)))
+    split : (g : Gate) → planGate p ≡ g → ZeroPast (settled g (blankLine 0) (holding (blankLine 0) (p .text)))
     split Open o =
         let hold = open-all (p .tests) o in
         let s = fits-short (p .text) (told hold) (cap hold) in

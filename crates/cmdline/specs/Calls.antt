@@ -10,10 +10,10 @@ use Rattle.cmdline.specs.declared.Written.{Written}
 use Rattle.cmdline.specs.declared.Written.the-variants as written
 use Rattle.cmdline.specs.declared.DeviceId.{DeviceId}
 use Rattle.cmdline.specs.Text.{Text, empty}
-use Rattle.cmdline.specs.Insertion.{Plan, gateOf, answerOf, settled, insert, insertStr, insertInitArgs, insertMultiple}
+use Rattle.cmdline.specs.Insertion.{Plan, planGate, answerOf, settled, insert, insertStr, insertInitArgs, insertMultiple}
 use Rattle.cmdline.specs.Device.{addDevice}
 use Rattle.cmdline.specs.Making.{new, tryFrom}
-use Rattle.cmdline.specs.Writing.{writeGate, writtenOf, bytesOf, sameLine}
+use Rattle.cmdline.specs.Writing.{writeGate, writtenOf, writtenBytes, sameLine}
 
 -- how a line is made: `new`, and `try_from` a text
 pub data Making : Type 0 where
@@ -43,7 +43,7 @@ pub record Step : Type 0 where
   pub text : Text
 
 abbrev pub planned : Plan → Text → Step
-planned p t = record { said = answered (answerOf (gateOf p)); text = settled (gateOf p) t (p .text) }
+planned p t = record { said = answered (answerOf (planGate p)); text = settled (planGate p) t (p .text) }
 
 unfoldable pub making : Making → ℕ → Step
 making makes-new c = planned (new c) (empty 0)
@@ -55,7 +55,7 @@ calling (inserts-multiple key values ends) t = planned (insertMultiple t key val
 calling (inserts-str slug) t = planned (insertStr t slug) t
 calling (inserts-init-args slug) t = planned (insertInitArgs t slug) t
 calling (adds-device size base irq id) t = planned (addDevice t size base irq id) t
-calling (writes room) t = record { said = wrote (writtenOf (writeGate t room) t) (bytesOf (writeGate t room) t); text = t }
+calling (writes room) t = record { said = wrote (writtenOf (writeGate t room) t) (writtenBytes (writeGate t room) t); text = t }
 calling (compares other) t = record { said = compared (sameLine t other); text = t }
 
 -- what all calls say, in order, and the texts at the end

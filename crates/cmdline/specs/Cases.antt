@@ -7,7 +7,7 @@ use Rattle.answers.specs.declared.Refusal.the-variants as refusal
 use Rattle.cmdline.specs.declared.Answer.{Answer}
 use Rattle.cmdline.specs.declared.Answer.the-variants.{Accepted, Refused}
 use Rattle.slugs.specs.Bytes.{space, quote, dash, equals}
-use Rattle.cmdline.specs.Insertion.{answerNumber}
+use Rattle.cmdline.specs.Insertion.{callNumber}
 use Rattle.cmdline.specs.Writing.{sameBytes}
 use Rattle.cmdline.specs.Calls.{Making, makes-new, makes-from, Call, inserts, inserts-str, inserts-init-args, Said, answered, wrote, compared, run}
 use Rattle.slugs.specs.Splitting.{separator}
@@ -23,7 +23,7 @@ pub record Case : Type 0 where
 
 -- something said is this answer, by the catalogue's number
 unfoldable pub says : Answer → Said → Bool
-says a (answered b) = eqb (answerNumber a) (answerNumber b)
+says a (answered b) = eqb (callNumber a) (callNumber b)
 says a (wrote w bytes) = false
 says a (compared b) = false
 

@@ -1,6 +1,5 @@
 -- The struct that holds a line: the texts that it holds, and the struct that holds given texts.
 use Prim.Native.Nat.{ℕ, min}
-use mathlib.Core.Path.{_≡_}
 use mathlib.Core.List.{List}
 use lib.ListN.{length, take, replicate}
 use lib.Seq.{sets}
@@ -10,8 +9,8 @@ use Rattle.cmdline.specs.declared.Reply.{Reply}
 use Rattle.cmdline.specs.declared.Written.{Written}
 use Rattle.cmdline.specs.Limit.{limit}
 use Rattle.cmdline.specs.Text.{Text}
-use Rattle.cmdline.specs.Insertion.{Plan, gateOf, answerOf, settled}
-use Rattle.cmdline.specs.Writing.{writeGate, writtenOf, bytesOf}
+use Rattle.cmdline.specs.Insertion.{Plan, planGate, answerOf, settled}
+use Rattle.cmdline.specs.Writing.{Writes}
 
 -- the texts of a line. A length or a capacity above the limit, which no constructor makes, counts as the limit
 abbrev pub textOf : Cmdline → Text
@@ -48,13 +47,12 @@ settledReply g before after = record { answer = answerOf g; line = settled g bef
 
 -- a call on a line: where it is refused the line comes back unchanged, both parts, buffers included
 abbrev pub replyOf : Cmdline → Plan → Reply
-replyOf l p = settledReply (gateOf p) l (holding l (p .text))
+replyOf l p = settledReply (planGate p) l (holding l (p .text))
 
 -- a making
 abbrev pub madeOf : Plan → Reply
-madeOf p = settledReply (gateOf p) (blankLine 0) (holding (blankLine 0) (p .text))
+madeOf p = settledReply (planGate p) (blankLine 0) (holding (blankLine 0) (p .text))
 
--- writing a line: what it says, and what it leaves of the bytes that it was lent: only the places of the text and its zero change
-pub record WrittenAs (l : Cmdline) (out : List ℕ) (r : Written) (left : List ℕ) : Type 0 where
-  pub answer : r ≡ writtenOf (writeGate (textOf l) (length out)) (textOf l)
-  pub bytes : left ≡ sets out 0 (bytesOf (writeGate (textOf l) (length out)) (textOf l))
+-- writing a line
+abbrev pub WrittenAs : Cmdline → List ℕ → Written → List ℕ → Type 0
+WrittenAs l out r left = Writes (textOf l) out r left

@@ -22,8 +22,8 @@ pub record Plan : Type 0 where
   pub tests : List Test
   pub text : Text
 
-abbrev pub gateOf : Plan → Gate
-gateOf p = askedAll Open (p .tests)
+abbrev pub planGate : Plan → Gate
+planGate p = askedAll Open (p .tests)
 
 -- what a call says: the refusal of the first test that fails
 abbrev pub answerOf : Gate → Answer
@@ -31,9 +31,9 @@ answerOf Open = Accepted
 answerOf (Shut r) = Refused r
 
 -- the catalogue's number of an answer; an accepted call has none, and counts as 0
-abbrev pub answerNumber : Answer → ℕ
-answerNumber Accepted = 0
-answerNumber (Refused r) = numberOf r
+abbrev pub callNumber : Answer → ℕ
+callNumber Accepted = 0
+callNumber (Refused r) = numberOf r
 
 -- what stands after a call: the new where every test held, and the old, unchanged, where one failed
 abbrev pub settled : {A : Type 0} → Gate → A → A → A

@@ -6,6 +6,7 @@ pub mod Device
 pub mod Making
 pub mod Writing
 pub mod Held
+pub mod InPlace
 pub mod ZeroPast
 pub mod Growing
 pub mod Keeping

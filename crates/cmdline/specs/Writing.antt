@@ -1,9 +1,11 @@
 -- The written line, and equality by written answers.
 use Prim.Native.Nat.{ℕ, _+_}
+use mathlib.Core.Path.{_≡_}
 use mathlib.Core.Bool.{Bool, true, false, not, _&&_}
 use mathlib.Core.List.{List, [], _∷_, _++_}
 use lib.Dec.{leb, ltb, eqb}
 use lib.ListN.{length}
+use lib.Seq.{sets}
 use Rattle.answers.specs.Pick.{pick}
 use Rattle.answers.specs.Catalogue.{numberOf}
 use Rattle.answers.specs.Tests.{Test, askedAll}
@@ -33,11 +35,8 @@ textTests boot init =
     (headed (length boot) (length init), refusal.NoBootArgsInserted) ∷ (not (has 0 (wholeOf boot init)), refusal.NullTerminator) ∷ []
 
 -- what is said of the text, given room
-abbrev pub gateOf : List ℕ → List ℕ → Gate
-gateOf boot init = askedAll Open (textTests boot init)
-
 abbrev pub textGate : Text → Gate
-textGate t = gateOf (t .boot) (t .init)
+textGate t = askedAll Open (textTests (t .boot) (t .init))
 
 -- the text's tests, then room for it and its zero
 abbrev pub writeTests : Text → ℕ → List Test
@@ -57,9 +56,18 @@ writtenNumber (written.Bytes n) = 0
 writtenNumber (written.Refused r) = numberOf r
 
 -- the bytes that are written: the text and its zero, or nothing
-abbrev pub bytesOf : Gate → Text → List ℕ
-bytesOf Open t = whole t ++ (0 ∷ [])
-bytesOf (Shut r) t = []
+abbrev pub writtenBytes : Gate → Text → List ℕ
+writtenBytes Open t = whole t ++ (0 ∷ [])
+writtenBytes (Shut r) t = []
+
+-- writing a line: what it says, and what it leaves of the bytes that it was lent: only the places of the text and its zero change
+pub record Writes (t : Text) (out : List ℕ) (r : Written) (left : List ℕ) : Type 0 where
+  pub answer : r ≡ writtenOf (writeGate t (length out)) t
+  pub bytes : left ≡ sets out 0 (writtenBytes (writeGate t (length out)) t)
+
+-- two texts alone: writing and comparing do not look at a capacity
+abbrev pub bare : List ℕ → List ℕ → Text
+bare boot init = record { boot = boot; init = init; capacity = 0 }
 
 -- two texts are the same
 unfoldable pub sameBytes : List ℕ → List ℕ → Bool

@@ -61,7 +61,7 @@ fn put_id(d: &mut [u8], at: usize, id: DeviceId) -> usize
 }
 
 // The whole text, of at most 80 bytes, at the start of d; its length.
-pub fn text(d: &mut [u8], size: u64, baseaddr: u64, irq: u32, id: DeviceId) -> usize
+pub(crate) fn text(d: &mut [u8], size: u64, baseaddr: u64, irq: u32, id: DeviceId) -> usize
     ensures { λ r. ⌜ (Stored (now (d .entry)) 0 (deviceText size baseaddr irq id) (now (d .exit)) r) × (length (deviceText size baseaddr irq id) ≤ 80) ⌝ }
 {
     let at = put_front(d, size, baseaddr, irq);

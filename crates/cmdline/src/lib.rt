@@ -11,24 +11,23 @@ ghost use mathlib.Core.Path.{_≡_};
 ghost use Rattle.cmdline.specs.Insertion.{insertStr, insertInitArgs, insert, insertMultiple};
 ghost use Rattle.cmdline.specs.Device.{addDevice};
 ghost use Rattle.cmdline.specs.Making.{new, tryFrom};
-ghost use Rattle.cmdline.specs.Writing.{textGate, sameLine};
+ghost use Rattle.cmdline.specs.Writing.{sameLine};
+ghost use Rattle.cmdline.specs.InPlace.{bootReply, initReply};
 ghost use Rattle.cmdline.specs.Held.{textOf, blankLine, settledReply, replyOf, madeOf, clampedLine, WrittenAs};
+use crate::in_place::Appended;
 use answers::Gate;
 use answers::Refusal;
 use fields::copying;
 use guest::GuestAddress;
 use slugs::buffers;
-use slugs::bytes;
-use slugs::keys;
-use slugs::lists;
 use slugs::splitting;
 use slugs::trimming;
-use slugs::values;
 
 mod device;
 mod digits;
-mod sizes;
-mod writing;
+pub mod in_place;
+pub mod sizes;
+pub mod writing;
 
 // The greatest capacity, the closing zero counted, and the length of each buffer.
 pub const LIMIT: usize = 4096;
@@ -114,15 +113,42 @@ fn clamped(
     }
 }
 
-// What is asked of the text of a line before room is.
-fn text_gate(line: Cmdline) -> Gate
-    ensures { λ r. ⌜ r ≡ textGate (textOf line) ⌝ }
+// The line with its boot buffer as a call in place left it.
+fn boot_reply(appended: Appended, boot: [u8; LIMIT], line: Cmdline) -> Reply
+    ensures { λ r. ⌜ r ≡ bootReply appended boot line ⌝ }
 {
-    let boots = copying::lesser(line.boots, LIMIT);
-    let inits = copying::lesser(line.inits, LIMIT);
-    let boot = line.boot;
-    let init = line.init;
-    writing::text_gate(&boot[..boots], &init[..inits])
+    match appended {
+        Appended::Refused(refusal) => Reply {
+            answer: Answer::Refused(refusal),
+            line: line,
+        },
+        Appended::Length(boots) => {
+            let init = line.init;
+            Reply {
+                answer: Answer::Accepted,
+                line: clamped(boot, boots, init, line.inits, line.capacity),
+            }
+        }
+    }
+}
+
+// The line with its init buffer as a call in place left it.
+fn init_reply(appended: Appended, init: [u8; LIMIT], line: Cmdline) -> Reply
+    ensures { λ r. ⌜ r ≡ initReply appended init line ⌝ }
+{
+    match appended {
+        Appended::Refused(refusal) => Reply {
+            answer: Answer::Refused(refusal),
+            line: line,
+        },
+        Appended::Length(inits) => {
+            let boot = line.boot;
+            Reply {
+                answer: Answer::Accepted,
+                line: clamped(boot, line.boots, init, inits, line.capacity),
+            }
+        }
+    }
 }
 
 impl Cmdline {
@@ -142,23 +168,16 @@ impl Cmdline {
     pub fn insert(self, key: &[u8], value: &[u8]) -> Reply
         ensures { λ r. ⌜ r ≡ replyOf self (insert (textOf self) (now (key .entry)) (now (value .entry))) ⌝ }
     {
-        let gate = keys::ask(Gate::Open, key);
-        let gate = values::ask(gate, value);
-        let room = sizes::boot_room(
+        let mut boot = self.boot;
+        let appended = in_place::insert(
+            &mut boot,
             self.boots,
             self.inits,
             self.capacity,
-            sizes::sum(sizes::sum(key.len(), 1), value.len()),
+            key,
+            value,
         );
-        let gate = answers::require(gate, room, Refusal::TooLarge);
-        let mut boot = self.boot;
-        let init = self.init;
-        let n = buffers::put_pair(&mut boot, copying::lesser(self.boots, LIMIT), key, value);
-        settled(
-            gate,
-            self,
-            clamped(boot, n, init, self.inits, self.capacity),
-        )
+        boot_reply(appended, boot, self)
     }
 
     // A key, an equals sign and values joined by commas, after the boot text. The values stand one after the other in a buffer, and the
@@ -166,77 +185,41 @@ impl Cmdline {
     pub fn insert_multiple(self, key: &[u8], values: &[u8], ends: &[usize]) -> Reply
         ensures { λ r. ⌜ r ≡ replyOf self (insertMultiple (textOf self) (now (key .entry)) (now (values .entry)) (now (ends .entry))) ⌝ }
     {
-        let gate = answers::require(
-            Gate::Open,
-            lists::is_list(ends, values.len()),
-            Refusal::BadList,
-        );
-        let gate = keys::ask(gate, key);
-        let gate = answers::require(gate, 0 < ends.len(), Refusal::MissingVal);
-        let gate = lists::ask(gate, values, ends);
-        let room = sizes::boot_room(
+        let mut boot = self.boot;
+        let appended = in_place::insert_multiple(
+            &mut boot,
             self.boots,
             self.inits,
             self.capacity,
-            sizes::sum(sizes::sum(key.len(), ends.len()), values.len()),
-        );
-        let gate = answers::require(gate, room, Refusal::TooLarge);
-        let mut boot = self.boot;
-        let init = self.init;
-        let n = lists::put_list(
-            &mut boot,
-            copying::lesser(self.boots, LIMIT),
             key,
             values,
             ends,
         );
-        settled(
-            gate,
-            self,
-            clamped(boot, n, init, self.inits, self.capacity),
-        )
+        boot_reply(appended, boot, self)
     }
 
     // A slug, after the boot text.
     pub fn insert_str(self, slug: &[u8]) -> Reply
         ensures { λ r. ⌜ r ≡ replyOf self (insertStr (textOf self) (now (slug .entry))) ⌝ }
     {
-        let s = trimming::trimmed(slug);
-        let gate = answers::require(Gate::Open, bytes::all_printable(s), Refusal::InvalidAscii);
-        let gate = answers::require(
-            gate,
-            sizes::boot_room(self.boots, self.inits, self.capacity, s.len()),
-            Refusal::TooLarge,
-        );
         let mut boot = self.boot;
-        let init = self.init;
-        let n = buffers::put_after(&mut boot, copying::lesser(self.boots, LIMIT), s);
-        settled(
-            gate,
-            self,
-            clamped(boot, n, init, self.inits, self.capacity),
-        )
+        let appended = in_place::insert_str(&mut boot, self.boots, self.inits, self.capacity, slug);
+        boot_reply(appended, boot, self)
     }
 
     // A slug, after the init text.
     pub fn insert_init_args(self, slug: &[u8]) -> Reply
         ensures { λ r. ⌜ r ≡ replyOf self (insertInitArgs (textOf self) (now (slug .entry))) ⌝ }
     {
-        let s = trimming::trimmed(slug);
-        let gate = answers::require(Gate::Open, bytes::all_printable(s), Refusal::InvalidAscii);
-        let gate = answers::require(
-            gate,
-            sizes::init_room(self.boots, self.inits, self.capacity, s.len()),
-            Refusal::TooLarge,
-        );
-        let boot = self.boot;
         let mut init = self.init;
-        let n = buffers::put_after(&mut init, copying::lesser(self.inits, LIMIT), s);
-        settled(
-            gate,
-            self,
-            clamped(boot, self.boots, init, n, self.capacity),
-        )
+        let appended = in_place::insert_init_args(
+            &mut init,
+            self.boots,
+            self.inits,
+            self.capacity,
+            slug,
+        );
+        init_reply(appended, init, self)
     }
 
     // The text of a virtio device, after the boot text.
@@ -249,12 +232,18 @@ impl Cmdline {
     ) -> Reply
         ensures { λ r. ⌜ r ≡ replyOf self (addDevice (textOf self) size (baseaddr .0) irq id) ⌝ }
     {
-        if size == 0 {
-            return settled(Gate::Shut(Refusal::MmioSize), self, self);
-        }
-        let mut text = [0u8; 80];
-        let n = device::text(&mut text, size, baseaddr.0, irq, id);
-        self.insert_str(&text[..n])
+        let mut boot = self.boot;
+        let appended = in_place::add_virtio_mmio_device(
+            &mut boot,
+            self.boots,
+            self.inits,
+            self.capacity,
+            size,
+            baseaddr,
+            irq,
+            id,
+        );
+        boot_reply(appended, boot, self)
     }
 
     // A line from its text: boot text and init text parted by the first separator outside of quotes.
@@ -264,22 +253,11 @@ impl Cmdline {
         let at = splitting::split_at(raw);
         let before = trimming::trimmed(&raw[..at]);
         let after = trimming::trimmed(splitting::after(raw, at));
-        let gate = answers::require(
-            Gate::Open,
-            sizes::is_capacity(capacity),
-            Refusal::InvalidCapacity,
-        );
-        let boots = copying::lesser(before.len(), LIMIT);
-        let inits = copying::lesser(after.len(), LIMIT);
-        let gate = answers::require(
-            gate,
-            sizes::counted(boots, inits) <= capacity,
-            Refusal::InvalidCapacity,
-        );
+        let gate = sizes::ask(Gate::Open, before.len(), after.len(), capacity);
         let mut boot = [0u8; LIMIT];
         let mut init = [0u8; LIMIT];
-        buffers::put(&mut boot, 0, before);
-        buffers::put(&mut init, 0, after);
+        let boots = buffers::put(&mut boot, 0, before);
+        let inits = buffers::put(&mut init, 0, after);
         settled(
             gate,
             blank_line(0),
@@ -291,20 +269,11 @@ impl Cmdline {
     pub fn as_cstring(self, out: &mut [u8]) -> Written
         ensures { λ r. ⌜ WrittenAs self (now (out .entry)) r (now (out .exit)) ⌝ }
     {
-        let gate = text_gate(self);
         let boots = copying::lesser(self.boots, LIMIT);
         let inits = copying::lesser(self.inits, LIMIT);
-        let count = sizes::counted(boots, inits);
-        let gate = answers::require(gate, count <= out.len(), Refusal::NoRoom);
-        match gate {
-            Gate::Shut(refusal) => Written::Refused(refusal),
-            Gate::Open => {
-                let boot = self.boot;
-                let init = self.init;
-                writing::write(out, &boot[..boots], &init[..inits]);
-                Written::Bytes(count)
-            }
-        }
+        let boot = self.boot;
+        let init = self.init;
+        writing::as_cstring(out, &boot[..boots], &init[..inits])
     }
 
     // Are the written answers, given room, the same?
@@ -319,12 +288,11 @@ impl Cmdline {
         let init = self.init;
         let boot2 = other.boot;
         let init2 = other.init;
-        let same = writing::same_whole(
+        writing::same_line(
             &boot[..boots],
             &init[..inits],
             &boot2[..boots2],
             &init2[..inits2],
-        );
-        writing::same_answer(text_gate(self), text_gate(other), same)
+        )
     }
 }

@@ -10,9 +10,13 @@
 ghost use mathlib.Core.Path.{_≡_};
 ghost use Prim.Native.Nat.{_+_, _≤_, min};
 ghost use lib.Dec.{leb};
+ghost use Rattle.answers.specs.Tests.{askedAll};
 ghost use Rattle.cmdline.specs.Limit.{limit, allowed};
+ghost use Rattle.cmdline.specs.Making.{sizeTests};
 ghost use Rattle.cmdline.specs.Text.{sizeOf, bootGap, initGap};
 use crate::LIMIT;
+use answers::Gate;
+use answers::Refusal;
 use fields::copying;
 use fields::ranges;
 
@@ -25,8 +29,29 @@ pub fn is_capacity(capacity: usize) -> bool
     capacity <= LIMIT
 }
 
+// Is the counted size of two texts of these lengths within the room? Nothing is summed, so it answers for all lengths.
+pub fn fits(room: usize, boots: usize, inits: usize) -> bool
+    ensures { λ r. ⌜ r ≡ leb (sizeOf boots inits) room ⌝ }
+{
+    if inits == 0 {
+        return within(room, boots, 1);
+    }
+    if boots < room {
+        return within(room - boots - 1, 4, inits);
+    }
+    false
+}
+
+// What is asked of the three numbers of a line: a capacity that is allowed, then a counted size within it.
+pub fn ask(gate: Gate, boots: usize, inits: usize, capacity: usize) -> Gate
+    ensures { λ r. ⌜ r ≡ askedAll gate (sizeTests boots inits capacity) ⌝ }
+{
+    let gate = answers::require(gate, is_capacity(capacity), Refusal::InvalidCapacity);
+    answers::require(gate, fits(capacity, boots, inits), Refusal::InvalidCapacity)
+}
+
 // A sum, no more than the limit.
-pub fn sum(a: usize, b: usize) -> usize
+pub(crate) fn sum(a: usize, b: usize) -> usize
     ensures { λ r. ⌜ r ≡ min (a + b) limit ⌝ }
 {
     let n = copying::lesser(a, LIMIT);
@@ -34,7 +59,7 @@ pub fn sum(a: usize, b: usize) -> usize
 }
 
 // Is the sum of a size and a length within the capacity?
-pub fn within(capacity: usize, size: usize, n: usize) -> bool
+pub(crate) fn within(capacity: usize, size: usize, n: usize) -> bool
     ensures { λ r. ⌜ r ≡ leb (size + n) capacity ⌝ }
 {
     ranges::within(capacity as u64, size as u64, n as u64)
@@ -52,21 +77,21 @@ pub(crate) fn counted(boots: usize, inits: usize) -> usize
 }
 
 // What an insertion is charged before its own bytes: a space if there is boot text.
-pub fn boot_gap(boots: usize) -> usize
+pub(crate) fn boot_gap(boots: usize) -> usize
     ensures { λ r. ⌜ r ≡ bootGap boots ⌝ }
 {
     if boots == 0 { 0 } else { 1 }
 }
 
 // And a separator if there is no init text yet, else a space.
-pub fn init_gap(inits: usize) -> usize
+pub(crate) fn init_gap(inits: usize) -> usize
     ensures { λ r. ⌜ r ≡ initGap inits ⌝ }
 {
     if inits == 0 { 4 } else { 1 }
 }
 
 // Is there room for n bytes more of boot text? The lengths and the capacity are the struct's own: above the limit they count as the limit.
-pub fn boot_room(boots: usize, inits: usize, capacity: usize, n: usize) -> bool
+pub(crate) fn boot_room(boots: usize, inits: usize, capacity: usize, n: usize) -> bool
     ensures { λ r. ⌜ r ≡ leb (sizeOf (min boots limit) (min inits limit) + bootGap (min boots limit) + n) (min capacity limit) ⌝ }
 {
     let b = copying::lesser(boots, LIMIT);
@@ -79,7 +104,7 @@ pub fn boot_room(boots: usize, inits: usize, capacity: usize, n: usize) -> bool
 }
 
 // Is there room for n bytes more of init text?
-pub fn init_room(boots: usize, inits: usize, capacity: usize, n: usize) -> bool
+pub(crate) fn init_room(boots: usize, inits: usize, capacity: usize, n: usize) -> bool
     ensures { λ r. ⌜ r ≡ leb (sizeOf (min boots limit) (min inits limit) + initGap (min inits limit) + n) (min capacity limit) ⌝ }
 {
     let b = copying::lesser(boots, LIMIT);

@@ -10,12 +10,18 @@
 ghost use mathlib.Core.Path.{_≡_};
 ghost use mathlib.Core.List.{[], _∷_, _++_};
 ghost use Prim.Native.Nat.{_≤_, _<_};
-ghost use lib.ListN.{length, getD};
-ghost use lib.Seq.{sets};
+ghost use lib.ListN.{length, getD, take};
+ghost use Rattle.answers.specs.Tests.{askedAll};
+ghost use Rattle.answers.specs.declared.Gate.the-variants.{Open};
+ghost use Rattle.slugs.specs.Stored.{Stored};
 ghost use Rattle.cmdline.specs.Limit.{limit};
-ghost use Rattle.cmdline.specs.Writing.{headed, wholeOf, gateOf, sameBytes, sameAnswer};
+ghost use Rattle.cmdline.specs.Writing.{bare, headed, wholeOf, textTests, sameBytes, sameAnswer, sameLine, Writes};
+use crate::LIMIT;
+use crate::Written;
+use crate::sizes;
 use answers::Gate;
 use answers::Refusal;
+use fields::copying;
 use slugs::buffers;
 use slugs::bytes;
 
@@ -31,7 +37,7 @@ fn is_headed(boots: usize, inits: usize) -> bool
 
 // What is asked of the whole text.
 pub fn text_gate(boot: &[u8], init: &[u8]) -> Gate
-    ensures { λ r. ⌜ r ≡ gateOf (now (boot .entry)) (now (init .entry)) ⌝ }
+    ensures { λ r. ⌜ r ≡ askedAll Open (textTests (now (boot .entry)) (now (init .entry))) ⌝ }
 {
     let gate = answers::require(
         Gate::Open,
@@ -42,18 +48,33 @@ pub fn text_gate(boot: &[u8], init: &[u8]) -> Gate
     answers::require(gate, !bytes::has(init, 0), Refusal::NullTerminator)
 }
 
-// The whole text and its zero, at the start of out.
-pub fn write(out: &mut [u8], boot: &[u8], init: &[u8])
-    ensures { λ _. ⌜ now (out .exit) ≡ sets (now (out .entry)) 0 (wholeOf (now (boot .entry)) (now (init .entry)) ++ (0 ∷ [])) ⌝ }
+// The whole text and its zero, at the start of out, as far as it goes; the place after them.
+pub fn write(out: &mut [u8], boot: &[u8], init: &[u8]) -> usize
+    ensures { λ r. ⌜ Stored (now (out .entry)) 0 (wholeOf (now (boot .entry)) (now (init .entry)) ++ (0 ∷ [])) (now (out .exit)) r ⌝ }
 {
     let at = buffers::put(out, 0, boot);
     if init.len() == 0 {
-        buffers::put(out, at, b"\0");
-        return;
+        return buffers::put(out, at, b"\0");
     }
     let at = buffers::put(out, at, b" -- ");
     let at = buffers::put(out, at, init);
-    buffers::put(out, at, b"\0");
+    buffers::put(out, at, b"\0")
+}
+
+// The text of a line and its closing zero, written to the start of out. Everything is asked first; a refusal writes nothing.
+pub fn as_cstring(out: &mut [u8], boot: &[u8], init: &[u8]) -> Written
+    ensures { λ r. ⌜ Writes (bare (now (boot .entry)) (now (init .entry))) (now (out .entry)) r (now (out .exit)) ⌝ }
+{
+    let gate = text_gate(boot, init);
+    let room = sizes::fits(out.len(), boot.len(), init.len());
+    let gate = answers::require(gate, room, Refusal::NoRoom);
+    match gate {
+        Gate::Shut(refusal) => Written::Refused(refusal),
+        Gate::Open => {
+            let count = write(out, boot, init);
+            Written::Bytes(count)
+        }
+    }
 }
 
 fn whole_len(boot: &[u8], init: &[u8]) -> usize
@@ -82,7 +103,7 @@ fn byte_at(boot: &[u8], init: &[u8], i: usize) -> u8
     init[k - 4]
 }
 
-pub(crate) fn same_whole(boot: &[u8], init: &[u8], boot2: &[u8], init2: &[u8]) -> bool
+fn same_whole(boot: &[u8], init: &[u8], boot2: &[u8], init2: &[u8]) -> bool
     requires { ⌜ (length (now boot) ≤ limit) × (length (now init) ≤ limit) × (length (now boot2) ≤ limit) × (length (now init2) ≤ limit) ⌝ }
     ensures { λ r. ⌜ r ≡ sameBytes (wholeOf (now (boot .entry)) (now (init .entry))) (wholeOf (now (boot2 .entry)) (now (init2 .entry))) ⌝ }
 {
@@ -101,7 +122,7 @@ pub(crate) fn same_whole(boot: &[u8], init: &[u8], boot2: &[u8], init2: &[u8]) -
 }
 
 // Two answers: the same refusal, or texts of which it is told whether they are the same.
-pub fn same_answer(gate: Gate, other: Gate, same: bool) -> bool
+fn same_answer(gate: Gate, other: Gate, same: bool) -> bool
     ensures { λ r. ⌜ r ≡ sameAnswer gate other same ⌝ }
 {
     match gate {
@@ -114,4 +135,25 @@ pub fn same_answer(gate: Gate, other: Gate, same: bool) -> bool
             Gate::Shut(second) => answers::number(refusal) == answers::number(second),
         },
     }
+}
+
+// As much of a text as a line can hold.
+fn clipped(s: &[u8]) -> &[u8]
+    ensures { λ r. ⌜ now r ≡ take limit (now (s .entry)) ⌝ }
+{
+    let end = copying::lesser(s.len(), LIMIT);
+    &s[..end]
+}
+
+// Are the written answers of two lines, given room, the same? Of a text that is longer than the limit, which no line holds, the first LIMIT
+// bytes count.
+pub fn same_line(boot: &[u8], init: &[u8], boot2: &[u8], init2: &[u8]) -> bool
+    ensures { λ r. ⌜ r ≡ sameLine (bare (take limit (now (boot .entry))) (take limit (now (init .entry)))) (bare (take limit (now (boot2 .entry))) (take limit (now (init2 .entry)))) ⌝ }
+{
+    let boot = clipped(boot);
+    let init = clipped(init);
+    let boot2 = clipped(boot2);
+    let init2 = clipped(init2);
+    let same = same_whole(boot, init, boot2, init2);
+    same_answer(text_gate(boot, init), text_gate(boot2, init2), same)
 }

@@ -10,19 +10,19 @@ use Rattle.fields.specs.Numbers.{le}
 use Rattle.fields.specs.Ranges.{liesWithin}
 use Rattle.fields.specs.Tags.{tagAt}
 use Rattle.guest.specs.Addresses.{amountOf, isGiven}
-use Rattle.guest.specs.Room.{room}
+use Rattle.guest.specs.Room.{room, memoryOf}
+use Rattle.guest.specs.Loading.{behindTests}
 use Rattle.guest.specs.Sizes.{allowed}
 use Rattle.guest.specs.Stream.{pour, streamAt}
 use Rattle.guest.specs.declared.Given.{Given}
 use Rattle.guest.specs.declared.Given.the-variants.{Nothing, At}
 use Rattle.guest.specs.declared.GuestAddress.{GuestAddress}
 use Rattle.reading.specs.Notes.{noteHeaderOf}
-use Rattle.elf.specs.Header.{magic, standWithin, gateOf}
+use Rattle.elf.specs.Header.{magic, standWithin}
 use Rattle.elf.specs.ProgramHeaders.{headerAt}
 use Rattle.elf.specs.Notes.{isWanted, skipOf, turnAt, walkFrom, walkOf, saidOf, entryOf, told, publicNote}
-use Rattle.elf.specs.Survey.{segmentStep, noteStep, stepOf, advanced, surveyFrom, planOf}
-use Rattle.elf.specs.Pouring.{segmentStream, streamFrom, streamOf, poured}
-use Rattle.elf.specs.Load.{answerOf}
+use Rattle.elf.specs.Survey.{segmentStep, noteStep, stepOf, advanced, surveyFrom}
+use Rattle.elf.specs.Pouring.{segmentStream, streamFrom, planOf}
 use Rattle.elf.specs.declared.PvhBootCapability.the-variants.{PvhEntryPresent, PvhEntryIgnored}
 use Rattle.elf.specs.declared.Answer.{Answer}
 use Rattle.elf.specs.declared.Answer.the-variants.{Loaded, Refused}
@@ -67,8 +67,10 @@ pub data Reply : Type 0 where
   walks : ElfNote → Reply
 
 unfoldable pub reply : Ask → Reply
-unfolding e1 note pick asked le liesWithin tagAt amountOf isGiven room allowed pour streamAt standWithin gateOf headerAt noteHeaderOf isWanted skipOf turnAt walkFrom walkOf saidOf entryOf told publicNote segmentStep noteStep stepOf advanced surveyFrom planOf segmentStream streamFrom streamOf
-reply (Load size offset highmem) = loads (answerOf e1 size offset highmem) (poured e1 offset highmem (zeros size))
+unfolding e1 note pick asked le liesWithin tagAt amountOf isGiven room allowed pour streamAt standWithin behindTests headerAt noteHeaderOf isWanted skipOf turnAt walkFrom walkOf saidOf entryOf told publicNote segmentStep noteStep stepOf advanced surveyFrom segmentStream streamFrom
+reply (Load size offset highmem) =
+    let plan = planOf e1 (memoryOf (zeros size)) offset highmem in
+    loads (plan .answer) (pour (plan .stream) (zeros size))
 reply (Walk size) = walks (publicNote note (record { 0 = 0 }) size)
 
 abbrev accepts : ℕ → ℕ → List ℕ → Reply

@@ -3,6 +3,7 @@ pub mod ProgramHeaders
 pub mod Notes
 pub mod Survey
 pub mod Pouring
+pub mod Fits
 pub mod Load
 pub mod Verdict
 pub mod ByteRule

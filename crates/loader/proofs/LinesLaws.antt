@@ -21,7 +21,7 @@ use Rattle.answers.proofs.TestsLaws.{all-open, first-shut}
 use Rattle.slugs.specs.Bytes.{has}
 use Rattle.cmdline.specs.Held.{textOf, WrittenAs}
 use Rattle.cmdline.specs.Text.{Text}
-use Rattle.cmdline.specs.Writing.{headed, wholeOf, whole, textTests, textGate, writeGate, writtenOf, bytesOf}
+use Rattle.cmdline.specs.Writing.{headed, wholeOf, whole, textTests, textGate, writeGate, writtenOf, writtenBytes}
 use Rattle.cmdline.specs.declared.Cmdline.{Cmdline}
 use Rattle.cmdline.specs.declared.Written.{Written}
 use Rattle.cmdline.specs.declared.Written.the-variants as written
@@ -127,8 +127,8 @@ module _ (line : Cmdline) (address at : ℕ) (guest : List ℕ) {ys : List ℕ} 
   told : (gate : Gate) → writeGate t (length part) ≡ gate → r ≡ answerFor (writtenOf gate t)
   told gate e = answers ∙ ap answerFor (wrote .answer ∙ ap (λ g. writtenOf g t) e)
 
-  poured : (gate : Gate) → writeGate t (length part) ≡ gate → putMid at (length guest - at) guest ys ≡ pour (streamAt at (bytesOf gate t)) guest
-  poured gate e = part-poured at guest (bytesOf gate t) (omega arith) (wrote .bytes ∙ ap (λ g. sets part 0 (bytesOf g t)) e)
+  poured : (gate : Gate) → writeGate t (length part) ≡ gate → putMid at (length guest - at) guest ys ≡ pour (streamAt at (writtenBytes gate t)) guest
+  poured gate e = part-poured at guest (writtenBytes gate t) (omega arith) (wrote .bytes ∙ ap (λ g. sets part 0 (writtenBytes g t)) e)
 
   by-text : (gate : Gate) → textGate t ≡ gate → LineLoads t address guest r (putMid at (length guest - at) guest ys)
   unfolding answerFor pick pour streamAt

@@ -1,7 +1,7 @@
 pub mod ListLaws
+pub mod PartLaws
 pub mod BytesLaws
 pub mod TrimmingLaws
-pub mod RowsLaws
 pub mod ValuesLaws
 pub mod StoredLaws
 pub mod ListsLaws

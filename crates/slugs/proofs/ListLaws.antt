@@ -1,12 +1,13 @@
 -- Laws of lists that the kit's library lacks: the first element of a rest, and runs of stores one after the other.
-use Prim.Native.Nat.{ℕ, suc, _+_, _-_, _≤_, _<_}
+use Prim.Native.Nat.{ℕ, _+_, _-_, _≤_, _<_}
 use mathlib.Core.Path.{_≡_, sym, ap, _∙_}
 use mathlib.Core.List.{List, [], _∷_, _++_}
 use native.Mathlib.Omega.{arith}
-use native.Mathlib.Nat.{add-zero, zero-add}
+use native.Mathlib.Nat.{zero-add}
 use native.Mathlib.Numerals.{add-one}
-use lib.ListN.{length, take, drop, getD, set, length-drop, take-append-drop, drop-of-length-le}
+use lib.ListN.{length, take, drop, getD, length-drop, take-append-drop, drop-of-length-le}
 use lib.Seq.{sets, sets-eq, drop-cons, take-all, length-take-le}
+use Rattle.fields.proofs.CopyingLaws.{sets-append}
 
 -- what is left from a place on: the element there and the rest, or nothing
 module _ (s : List ℕ) (i : ℕ) where
@@ -19,13 +20,6 @@ module _ (s : List ℕ) (i : ℕ) where
   pub part-end : take (length s - i) (drop i s) ≡ drop i s
   part-end = take-all (length s - i) (drop i s) (simp length-drop (omega arith))
 
--- one run of stores and then another
-pub sets-append : (s t d : List ℕ) (at : ℕ) → sets d at (s ++ t) ≡ sets (sets d at s) (at + length s) t
-sets-append [] t d at = ap (λ (k : ℕ). sets d k t) (sym (add-zero at))
-sets-append (x ∷ xs) t d at =
-    let e : suc at + length xs ≡ at + suc (length xs) = omega arith in
-    sets-append xs t (set d at x) (suc at) ∙ ap (λ (k : ℕ). sets (sets (set d at x) (suc at) xs) k t) e
-
 -- a run that begins with what stands there
 pub sets-same : (d : List ℕ) (n : ℕ) → n ≤ length d → sets d 0 (take n d) ≡ d
 sets-same d n h =
@@ -33,4 +27,4 @@ sets-same d n h =
     sets-eq (take n d) d 0 (omega arith) ∙ rw (l, zero-add) (take-append-drop n d)
 
 pub sets-own : (d s : List ℕ) (n : ℕ) → n ≤ length d → sets d 0 (take n d ++ s) ≡ sets d n s
-sets-own d s n h = sets-append (take n d) s d 0 ∙ rw (sets-same d n h, length-take-le n d h, zero-add)
+sets-own d s n h = sets-append (take n d) s d 0 n (sym (zero-add (length (take n d)) ∙ length-take-le n d h)) ∙ ap (λ (l : List ℕ). sets l n s) (sets-same d n h)

@@ -13,6 +13,7 @@ use Rattle.answers.specs.Pick.{pick}
 use Rattle.answers.specs.Tests.{askedAll, AllHold}
 use Rattle.answers.specs.declared.Refusal.the-variants as refusal
 use Rattle.answers.specs.declared.Gate.{Gate}
+use Rattle.answers.proofs.TestsLaws.{asked-append, hold-left, hold-right}
 use Rattle.slugs.specs.Bytes.{equals, comma, blank, printable, every}
 use Rattle.slugs.specs.Trimming.{trimEnd, trim}
 use Rattle.slugs.specs.Keys.{keyTests}
@@ -22,7 +23,6 @@ use Rattle.slugs.proofs.ListLaws.{here, gone, part-end}
 use Rattle.slugs.proofs.BytesLaws.{both-left, both-right, every-append}
 use Rattle.slugs.proofs.TrimmingLaws.{end-append}
 use Rattle.slugs.proofs.ValuesLaws.{key-printable, value-printable, value-kept, key-kept}
-use Rattle.slugs.proofs.RowsLaws.{all-append, hold-left, hold-right}
 
 -- ---- ends that rise, from a place on
 
@@ -84,7 +84,7 @@ module _ (es s : List ℕ) (at i : ℕ) where
   pub tests-on : (g : Gate) → i < length es
       → askedAll (askedAll g (valueTests (part at (getD es i 0) s))) (listTests (getD es i 0) (drop (i + 1) es) s) ≡ askedAll g (listTests at (drop i es) s)
   unfolding listTests
-  tests-on g h = rw (here es i h) (sym (all-append g (valueTests (part at (getD es i 0) s)) (listTests (getD es i 0) (drop (i + 1) es) s)))
+  tests-on g h = rw (here es i h) (sym (asked-append g (valueTests (part at (getD es i 0) s)) (listTests (getD es i 0) (drop (i + 1) es) s)))
 
   pub tests-end : (g : Gate) → length es ≤ i → askedAll g (listTests at (drop i es) s) ≡ g
   unfolding listTests

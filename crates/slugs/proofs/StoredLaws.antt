@@ -9,12 +9,10 @@ use lib.Seq.{sets, sets-eq, length-sets, take-append-seam}
 use borrow.Author.Tests.{ne-eqb}
 use borrow.Rule.Slice.PartMut.{midOf, putMid}
 use Rattle.answers.specs.Pick.{pick}
-use Rattle.fields.proofs.CopyingLaws.{sets-out}
-use Rattle.guest.proofs.PartLaws.{part-poured}
-use Rattle.guest.proofs.StreamLaws.{pour-at}
+use Rattle.fields.proofs.CopyingLaws.{sets-out, sets-clipped, sets-append}
 use Rattle.slugs.specs.Bytes.{space}
 use Rattle.slugs.specs.Stored.{Stored}
-use Rattle.slugs.proofs.ListLaws.{sets-append}
+use Rattle.slugs.proofs.PartLaws.{rest-sets}
 use Rattle.slugs.specs.Joining.{spaceAfter}
 
 -- a copy into the part of a buffer that begins at a place, clipped to the buffer
@@ -22,11 +20,10 @@ pub stored-part : (d s : List ℕ) (at : ℕ) {from : ℕ} {ys : List ℕ} {n : 
     → ys ≡ sets (midOf from (length d - from) d) 0 s → n ≡ min (length s) (length d - from)
     → Stored d at s (putMid from (length d - from) d ys) (from + n)
 stored-part d s at {from} ef e n =
-    record { bytes = part-poured from d s (omega arith) e ∙ pour-at s d from ∙ split (decLe at (length d)); place = omega arith }
-  where
-    split : Dec (at ≤ length d) → sets d from s ≡ sets d at s
-    split (yes h) = ap (λ (k : ℕ). sets d k s) (let same : from ≡ at = omega arith in same)
-    split (no h) = sets-out s d from (omega arith) ∙ sym (sets-out s d at (omega arith))
+    record {
+      bytes = ap (λ (l : List ℕ). putMid from (length d - from) d l) e ∙ rest-sets from d s ∙ sets-clipped s d at from ef;
+      place = omega arith;
+    }
 
 -- the same bytes, written another way
 pub stored-as : {d : List ℕ} {at : ℕ} {s t left : List ℕ} {r : ℕ} → s ≡ t → Stored d at s left r → Stored d at t left r
@@ -45,7 +42,7 @@ pub then : {d : List ℕ} {at : ℕ} {s left : List ℕ} {r : ℕ} {t last : Lis
     → Stored d at (s ++ t) last end
 then {d} {at} {s} {left} {r} {t} {last} {end} a b =
     record {
-      bytes = b .bytes ∙ split (decLe (at + length s) (length d)) ∙ ap (λ (l : List ℕ). sets l (at + length s) t) (a .bytes) ∙ sym (sets-append s t d at);
+      bytes = b .bytes ∙ split (decLe (at + length s) (length d)) ∙ ap (λ (l : List ℕ). sets l (at + length s) t) (a .bytes) ∙ sym (sets-append s t d at (at + length s) refl);
       place = let n = length-append s t in let l = stored-long a in let p = a .place in let q = b .place in omega arith;
     }
   where

@@ -9,13 +9,13 @@ use lib.ListN.{length, take, drop, getD}
 use borrow.Author.Tests.{eq-eqb, ne-eqb, le-leb, lt-leb, eqb-true, eqb-false, not-true}
 use Rattle.answers.specs.Pick.{pick}
 use Rattle.answers.specs.Tests.{AllHold}
+use Rattle.answers.proofs.TestsLaws.{hold-left, hold-right}
 use Rattle.slugs.specs.Bytes.{space, quote, equals, blank, printable, every, has}
 use Rattle.slugs.specs.Trimming.{trimEnd, trim}
 use Rattle.slugs.specs.Keys.{keyTests}
 use Rattle.slugs.specs.Values.{inner, quoted, protected, valueTests, pair}
 use Rattle.slugs.proofs.BytesLaws.{both-right, every-at, every-append, has-not-at, not-blank}
 use Rattle.slugs.proofs.TrimmingLaws.{start-kept, end-kept, end-append}
-use Rattle.slugs.proofs.RowsLaws.{hold-left, hold-right}
 
 -- ---- quotes
 

@@ -1,50 +1,29 @@
--- `Cmdline::insert_str`: the gate is that of the trimmed slug, and where it is open the buffer holds the slug after the text.
 use mathlib.Core.Path.{_≡_}
-use native.Mathlib.Omega.{arith}
 use lib.ListN.{length}
-use borrow.Author.Needs.{needs}
 use Rattle.cmdline.specs.Limit.{limit}
-use Rattle.cmdline.proofs.HeldLaws.{str-reply}
+use Rattle.cmdline.proofs.InPlaceLaws.{str-replied}
+use borrow.Author.Needs.{needs}
 use Rattle.cmdline.proofs.Cmdline.insert_str.Statement.{statement}
 use Rattle.cmdline.proofs.Cmdline.insert_str.Tie as tie
 
-put-after-requires : tie.Need-put-after-requires
-put-after-requires c κs =
-    let start = c .before .before .before .before .before .before .before .before .before .before in
-    let args = start .args in
-    let long : length (args .self .boot) ≡ limit = search needs in
-    omega (arith, c .lesser .ensures)
+slice-aggregate-insert-str : tie.Need-slice-aggregate-insert-str
+slice-aggregate-insert-str c = search needs
+
+insert-str-requires : tie.Need-insert-str-requires
+insert-str-requires c κs = search needs
+
+boot-reply-requires : tie.Need-boot-reply-requires
+boot-reply-requires c κs = search needs
 
 returns : tie.Need-returns
 returns c =
-    let start = c .before .before .before .before .before .before .before .before .before .before .before .before .before .before in
+    let start = c .before .before .before .before .before .before in
     let args = start .args in
     let good = start .good .0 in
     let boot-long : length (args .self .boot) ≡ limit = search needs in
     let init-long : length (args .self .init) ≡ limit = search needs in
-    let at-put-after = c .before .before .before in
-    let at-lesser = at-put-after .before in
-    let at-require2 = at-lesser .before .before .before .before in
-    let at-boot-room = at-require2 .before in
-    let at-require = at-boot-room .before in
-    let at-all-printable = at-require .before in
-    let at-trimmed = at-all-printable .before in
-    str-reply (args .self) boot-long init-long (args .slug .now) (at-trimmed .trimmed .result .now) (at-trimmed .trimmed .ensures)
-    (at-all-printable .all-printable .ensures) (at-require .require .ensures) (at-require2 .require2 .ensures) (c .settled .ensures)
-    (at-boot-room .boot-room .ensures) (at-lesser .lesser .ensures) (at-put-after .put-after .ensures) (c .before .clamped .ensures)
+    str-replied (args .self) boot-long init-long (args .slug .now) (c .before .before .insert-str .ensures) (c .boot-reply .ensures)
 
 pub insert-str-spec : {M : Type 1} → statement M
 insert-str-spec =
-    tie.close
-    (tie.spec
-    (λ c κs. search needs)
-    (λ c κs. search needs)
-    (λ c κs. search needs)
-    (λ c κs. search needs)
-    (λ c κs. search needs)
-    (λ c. search needs)
-    (λ c κs. search needs)
-    put-after-requires
-    (λ c κs. search needs)
-    (λ c κs. search needs)
-    returns)
+    tie.close (tie.spec slice-aggregate-insert-str insert-str-requires boot-reply-requires returns)

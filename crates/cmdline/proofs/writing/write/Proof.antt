@@ -1,34 +1,25 @@
 -- `writing::write`: one part after the other.
+use borrow.Author.Needs.{needs}
 use mathlib.Core.List.{_++_, _∷_, [], append-assoc}
 use mathlib.Core.Path.{_∙_, ap, sym}
-use lib.Seq.{sets}
-use borrow.Author.Needs.{needs}
 use Rattle.slugs.specs.Splitting.{separator}
-use Rattle.slugs.proofs.StoredLaws.{then}
+use Rattle.slugs.proofs.StoredLaws.{then, stored-as}
 use Rattle.cmdline.proofs.WritingLaws.{whole-none, whole-some}
 use Rattle.cmdline.proofs.writing.write.Statement.{statement}
 use Rattle.cmdline.proofs.writing.write.Tie as tie
 
 returns : tie.Need-returns
 returns c =
-    let at-if1 = c .before .before .before .before .before in
-    let at-put = at-if1 .before .before .before in
-    let start = at-put .before .before .before .before .before in
-    let args = start .args in
-    let stored = then (at-put .put .ensures) (c .before .before .put2 .ensures) in
-    stored .bytes ∙ rw (whole-none (args .boot .now) (args .init .now) (at-if1 .if1 .taken))
+    let args = c .before .before .before .before .before .before .before .before .before .before .before .before .before .args in
+    stored-as (ap (λ text. text ++ (0 ∷ [])) (sym (whole-none (args .boot .now) (args .init .now) (c .before .before .before .before .before .if1 .taken))))
+    (then (c .before .before .before .before .before .before .before .before .put .ensures) (c .before .before .put2 .ensures))
 
 returns-2 : tie.Need-returns-2
 returns-2 c =
-    let at-put4 = c .before .before .before .before .before .before .before in
-    let at-put3 = at-put4 .before .before .before .before in
-    let at-if1 = at-put3 .before .before .before in
-    let at-put = at-if1 .before .before .before in
-    let start = at-put .before .before .before .before .before in
-    let args = start .args in
-    let stored = then (then (then (at-put .put .ensures) (at-put3 .put3 .ensures)) (at-put4 .put4 .ensures)) (c .before .before .put5 .ensures) in
-    let parts = append-assoc (args .boot .now) separator (args .init .now) ∙ sym (whole-some (args .boot .now) (args .init .now) (at-if1 .if1 .left)) in
-    stored .bytes ∙ ap (λ text. sets (args .out .now) 0 (text ++ (0 ∷ []))) parts
+    let args = c .before .before .before .before .before .before .before .before .before .before .before .before .before .before .before .before .before .before .before .before .before .before .args in
+    let parts = append-assoc (args .boot .now) separator (args .init .now) ∙ sym (whole-some (args .boot .now) (args .init .now) (c .before .before .before .before .before .before .before .before .before .before .before .before .before .before .if1 .left)) in
+    stored-as (ap (λ text. text ++ (0 ∷ [])) parts)
+    (then (then (then (c .before .before .before .before .before .before .before .before .before .before .before .before .before .before .before .before .before .put .ensures) (c .before .before .before .before .before .before .before .before .before .before .before .put3 .ensures)) (c .before .before .before .before .before .before .before .put4 .ensures)) (c .before .before .put5 .ensures))
 
 pub write-spec : {M : Type 1} → statement M
 write-spec =

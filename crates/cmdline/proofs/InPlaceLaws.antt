@@ -1,0 +1,191 @@
+-- Laws of insertion in place, and of the line whose boot buffer was lent.
+use Prim.Native.Nat.{ℕ, _+_, _≤_, min}
+use mathlib.Core.Path.{_≡_, refl, sym, ap, _∙_, subst, subst⁻¹}
+use mathlib.Core.Bool.{Bool, true, not}
+use mathlib.Core.List.{List, [], _∷_, _++_}
+use native.Mathlib.Omega.{arith}
+use lib.Dec.{leb}
+use lib.ListN.{length}
+use lib.Seq.{sets}
+use borrow.Author.Tests.{eq-eqb, ne-eqb}
+use Rattle.answers.specs.Pick.{pick}
+use Rattle.answers.specs.Tests.{Test, asked, askedAll, AllHold}
+use Rattle.answers.specs.declared.Refusal.{Refusal}
+use Rattle.answers.specs.declared.Refusal.the-variants as refusal
+use Rattle.answers.specs.declared.Gate.{Gate}
+use Rattle.answers.specs.declared.Gate.the-variants.{Open, Shut}
+use Rattle.answers.proofs.TestsLaws.{open-all, shut-stays, asked-append, hold-left, hold-right}
+use Rattle.slugs.specs.Bytes.{equals, printable, every}
+use Rattle.slugs.specs.Lists.{listPre, listed}
+use Rattle.slugs.specs.Trimming.{trim}
+use Rattle.slugs.specs.Keys.{keyTests}
+use Rattle.slugs.specs.Values.{valueTests, pair}
+use Rattle.slugs.specs.Stored.{Stored}
+use Rattle.slugs.specs.Joining.{spaceAfter, joined}
+use Rattle.slugs.proofs.ValuesLaws.{pair-told}
+use Rattle.cmdline.specs.declared.Answer.the-variants as answer
+use Rattle.cmdline.specs.declared.Cmdline.{Cmdline}
+use Rattle.cmdline.specs.declared.DeviceId.{DeviceId}
+use Rattle.cmdline.specs.declared.Reply.{Reply}
+use Rattle.cmdline.specs.declared.in_place.Appended.{Appended}
+use Rattle.cmdline.specs.declared.in_place.Appended.the-variants as appended
+use Rattle.cmdline.specs.Limit.{limit}
+use Rattle.cmdline.specs.Text.{sizeOf, bootGap, initGap, bootRoom, initRoom}
+use Rattle.cmdline.specs.Insertion.{withBoot, withInit, insertStr, insertInitArgs, insert, insertMultiple}
+use Rattle.cmdline.specs.Device.{deviceText, addDevice}
+use Rattle.cmdline.specs.Held.{textOf, holding, settledReply, replyOf}
+use Rattle.cmdline.specs.InPlace.{Append, afterTests, strAppend, pairAppend, listAppend, deviceAppend, initAppend, AppendsBy, Appends, bootReply, initReply}
+use Rattle.cmdline.proofs.TextLaws.{size-boot, room-clipped}
+use Rattle.cmdline.proofs.PlanLaws.{settled-as, asked-where}
+use Rattle.cmdline.proofs.HeldLaws.{boot-long, init-long, boot-held, init-held}
+
+-- ---- in place
+
+-- stored where the gate is open
+pub appends-open : {gate : Gate} {buffer : List ℕ} {n : ℕ} {s left : List ℕ} {r : ℕ} → gate ≡ Open → Stored buffer n (spaceAfter n ++ s) left r
+    → AppendsBy gate buffer n s (appended.Length r) left
+appends-open {gate} {buffer} {n} {s} {left} {r} e w = rw e (record { answer = ap appended.Length (w .place); bytes = w .bytes })
+
+-- by another gate that is the same, with another slug that is the same where it is open
+pub appends-as : {g h : Gate} {buffer : List ℕ} {n : ℕ} {s t left : List ℕ} {r : Appended} → g ≡ h → (h ≡ Open → s ≡ t) → AppendsBy g buffer n s r left
+    → AppendsBy h buffer n t r left
+appends-as {g} {h} {buffer} {n} {s} {t} {left} {r} e same w = split h refl (rw (← e) w)
+  where
+    split : (x : Gate) → h ≡ x → AppendsBy h buffer n s r left → AppendsBy h buffer n t r left
+    split Open o v = rw (← same o) v
+    split (Shut refusal) o v = rw o (let u : AppendsBy (Shut refusal) buffer n s r left = rw o at v in record { answer = u .answer; bytes = u .bytes })
+
+-- a slug that the tests before it show to be trimmed and printable has only room left to ask
+module _ (pre : List Test) (w : List ℕ) (told : AllHold pre → (trim w ≡ w) × (every printable w ≡ true)) (b i c : ℕ) where
+  last-asked : asked (askedAll Open pre) (leb (sizeOf b i + bootGap b + length w) c) refusal.TooLarge ≡ askedAll Open (pre ++ strAppend b i c w .tests)
+  unfolding strAppend asked pick
+  last-asked = split (askedAll Open pre) refl ∙ sym (asked-append Open pre (strAppend b i c w .tests))
+    where
+      split : (g : Gate) → askedAll Open pre ≡ g
+          → asked (askedAll Open pre) (leb (sizeOf b i + bootGap b + length w) c) refusal.TooLarge ≡ askedAll (askedAll Open pre) (strAppend b i c w .tests)
+      split Open e = let f = told (open-all pre e) in rw (e, f .0, f .1)
+      split (Shut r) e = rw e
+
+  pub slug-asked : {k : ℕ} {room : Bool} {g h : Gate} → c ≤ limit → g ≡ askedAll Open pre → (AllHold pre → k ≡ min (length w) limit)
+      → room ≡ leb (sizeOf b i + bootGap b + k) c → h ≡ asked g room refusal.TooLarge → h ≡ askedAll Open (pre ++ strAppend b i c w .tests)
+  slug-asked {k} {room} {g} {h} top first count eroom second =
+      let size = size-boot b i in
+      second
+      ∙ ap (λ (x : Gate). asked x room refusal.TooLarge) first
+      ∙ asked-where pre refusal.TooLarge (λ hold. eroom ∙ room-clipped (sizeOf b i + bootGap b) (length w) c (count hold) (omega arith) top)
+      ∙ last-asked
+
+-- a slug, as the code works it out: trimmed, asked, put
+pub str-appends : (slug s : List ℕ) (b i c : ℕ) {a room : Bool} {g h : Gate} {buffer : List ℕ} {n : ℕ} {left : List ℕ} {r : Appended} → s ≡ trim slug
+    → a ≡ every printable s → g ≡ asked Open a refusal.InvalidAscii → room ≡ leb (sizeOf b i + bootGap b + length s) c
+    → h ≡ asked g room refusal.TooLarge → n ≡ b → AppendsBy h buffer n s r left → Appends (strAppend b i c slug) buffer b r left
+unfolding strAppend
+str-appends slug s b i c {a} {room} {g} {h} {buffer} {n} {left} {r} trimmed ea eg eroom eh en w =
+    appends-as (eh ∙ rw (eg, ea, eroom, trimmed)) (λ o. trimmed) (subst (λ (k : ℕ). AppendsBy h buffer k s r left) en w)
+
+-- a slug that the tests before it show to be trimmed and printable
+pub slug-appends : (pre : List Test) (w : List ℕ) → (AllHold pre → (trim w ≡ w) × (every printable w ≡ true)) → (b i c : ℕ) {k : ℕ} {room : Bool} {g h : Gate}
+    {buffer : List ℕ} {n : ℕ} {left : List ℕ} {r : Appended} → c ≤ limit → g ≡ askedAll Open pre → (AllHold pre → k ≡ min (length w) limit)
+    → room ≡ leb (sizeOf b i + bootGap b + k) c → h ≡ asked g room refusal.TooLarge → n ≡ b → AppendsBy h buffer n w r left
+    → Appends (afterTests pre (strAppend b i c w)) buffer b r left
+unfolding strAppend
+slug-appends pre w told b i c {k} {room} {g} {h} {buffer} {n} {left} {r} top first count eroom second en v =
+    appends-as (slug-asked pre w told b i c top first count eroom second)
+    (λ o. sym (told (hold-left pre (strAppend b i c w .tests) (open-all (pre ++ strAppend b i c w .tests) o)) .0))
+    (subst (λ (m : ℕ). AppendsBy h buffer m w r left) en v)
+
+-- a device: nothing where its size is 0, else its text as a slug
+module _ (b i c size base irq : ℕ) (id : DeviceId) {buffer : List ℕ} {n : ℕ} where
+  pub device-none : size ≡ 0 → Appends (deviceAppend b i c size base irq id) buffer n (appended.Refused refusal.MmioSize) buffer
+  unfolding deviceAppend asked pick
+  device-none e =
+      subst⁻¹ (λ (g : Gate). AppendsBy g buffer n (deviceAppend b i c size base irq id .slug) (appended.Refused refusal.MmioSize) buffer)
+      (ap (λ (x : Bool). askedAll (asked Open (not x) refusal.MmioSize) (strAppend b i c (deviceText size base irq id) .tests)) (eq-eqb size 0 e)
+      ∙ shut-stays (strAppend b i c (deviceText size base irq id) .tests) refusal.MmioSize)
+      (record { answer = refl; bytes = refl })
+
+  pub device-appends : {s left : List ℕ} {r : Appended} → (size ≡ 0 → ⊥) → s ≡ deviceText size base irq id → Appends (strAppend b i c s) buffer n r left
+      → Appends (deviceAppend b i c size base irq id) buffer n r left
+  unfolding deviceAppend asked pick
+  device-appends {s} {left} {r} some es w = rw (ne-eqb size 0 some) (subst (λ (x : List ℕ). Appends (strAppend b i c x) buffer n r left) es w)
+
+-- a slug after the init text
+pub init-appends : (slug s : List ℕ) (b i c : ℕ) {a room : Bool} {g h : Gate} {buffer : List ℕ} {n : ℕ} {left : List ℕ} {r : Appended} → s ≡ trim slug
+    → a ≡ every printable s → g ≡ asked Open a refusal.InvalidAscii → room ≡ leb (sizeOf b i + initGap i + length s) c
+    → h ≡ asked g room refusal.TooLarge → n ≡ i → AppendsBy h buffer n s r left → Appends (initAppend b i c slug) buffer i r left
+unfolding initAppend
+init-appends slug s b i c {a} {room} {g} {h} {buffer} {n} {left} {r} trimmed ea eg eroom eh en w =
+    appends-as (eh ∙ rw (eg, ea, eroom, trimmed)) (λ o. trimmed) (subst (λ (k : ℕ). AppendsBy h buffer k s r left) en w)
+
+-- ---- the line whose boot buffer was lent
+
+module _ (l : Cmdline) (lb : length (l .boot) ≡ limit) (li : length (l .init) ≡ limit) where
+  boot-replied : (ts : List Test) (s : List ℕ) {p : Appended} {d : List ℕ} {reply : Reply} → (AllHold ts → bootRoom (textOf l) (length s) ≡ true)
+      → AppendsBy (askedAll Open ts) (l .boot) (min (l .boots) limit) s p d → reply ≡ bootReply p d l
+      → reply ≡ settledReply (askedAll Open ts) l (holding l (withBoot (textOf l) (joined (textOf l .boot) s)))
+  boot-replied ts s {p} {d} {reply} room w e = split (askedAll Open ts) refl w
+    where
+      split : (g : Gate) → askedAll Open ts ≡ g → AppendsBy g (l .boot) (min (l .boots) limit) s p d
+          → reply ≡ settledReply g l (holding l (withBoot (textOf l) (joined (textOf l .boot) s)))
+      split Open eg v =
+          e
+          ∙ ap (λ (x : Appended). bootReply x d l) (v .answer)
+          ∙ ap (λ (x : Cmdline). record { answer = answer.Accepted; line = x })
+          (boot-held l lb li s d (min (l .boots) limit) (min (min (l .boots) limit + length (spaceAfter (min (l .boots) limit) ++ s)) (length (l .boot))) refl
+          (room (open-all ts eg)) (record { bytes = v .bytes; place = refl }))
+      split (Shut r) eg v = e ∙ ap (λ (x : Appended). bootReply x d l) (v .answer)
+
+  pub str-replied : (slug : List ℕ) {p : Appended} {d : List ℕ} {reply : Reply}
+      → Appends (strAppend (min (l .boots) limit) (min (l .inits) limit) (min (l .capacity) limit) slug) (l .boot) (min (l .boots) limit) p d
+      → reply ≡ bootReply p d l → reply ≡ replyOf l (insertStr (textOf l) slug)
+  unfolding insertStr strAppend
+  str-replied slug {p} {d} w e =
+      boot-replied (insertStr (textOf l) slug .tests) (trim slug) {p = p} {d = d} (λ hold. hold .1 .0) (rw (boot-long l lb li, init-long l lb li) w) e
+
+  pub pair-replied : (key value : List ℕ) {p : Appended} {d : List ℕ} {reply : Reply}
+      → Appends (pairAppend (min (l .boots) limit) (min (l .inits) limit) (min (l .capacity) limit) key value) (l .boot) (min (l .boots) limit) p d
+      → reply ≡ bootReply p d l → reply ≡ replyOf l (insert (textOf l) key value)
+  unfolding insert insertStr strAppend pairAppend
+  pair-replied key value {p} {d} w e =
+      boot-replied (insert (textOf l) key value .tests) (trim (pair key value)) {p = p} {d = d}
+      (λ hold. hold-right (keyTests key ++ valueTests value) (insertStr (textOf l) (pair key value) .tests) hold .1 .0)
+      (rw (boot-long l lb li, init-long l lb li) w) e
+
+  pub list-replied : (key values ends : List ℕ) {p : Appended} {d : List ℕ} {reply : Reply}
+      → Appends (listAppend (min (l .boots) limit) (min (l .inits) limit) (min (l .capacity) limit) key values ends) (l .boot) (min (l .boots) limit) p d
+      → reply ≡ bootReply p d l → reply ≡ replyOf l (insertMultiple (textOf l) key values ends)
+  unfolding insertMultiple insertStr strAppend listAppend
+  list-replied key values ends {p} {d} w e =
+      boot-replied (insertMultiple (textOf l) key values ends .tests) (trim (key ++ listed equals 0 ends values)) {p = p} {d = d}
+      (λ hold. hold-right (listPre key values ends) (insertStr (textOf l) (key ++ listed equals 0 ends values) .tests) hold .1 .0)
+      (rw (boot-long l lb li, init-long l lb li) w) e
+
+  pub device-replied : (size base irq : ℕ) (id : DeviceId) {p : Appended} {d : List ℕ} {reply : Reply}
+      → Appends (deviceAppend (min (l .boots) limit) (min (l .inits) limit) (min (l .capacity) limit) size base irq id) (l .boot) (min (l .boots) limit) p d
+      → reply ≡ bootReply p d l → reply ≡ replyOf l (addDevice (textOf l) size base irq id)
+  unfolding addDevice insertStr strAppend deviceAppend
+  device-replied size base irq id {p} {d} w e =
+      boot-replied (addDevice (textOf l) size base irq id .tests) (trim (deviceText size base irq id)) {p = p} {d = d} (λ hold. hold .1 .1 .0)
+      (rw (boot-long l lb li, init-long l lb li) w) e
+
+  init-replied : (ts : List Test) (s : List ℕ) {p : Appended} {d : List ℕ} {reply : Reply} → (AllHold ts → initRoom (textOf l) (length s) ≡ true)
+      → AppendsBy (askedAll Open ts) (l .init) (min (l .inits) limit) s p d → reply ≡ initReply p d l
+      → reply ≡ settledReply (askedAll Open ts) l (holding l (withInit (textOf l) (joined (textOf l .init) s)))
+  init-replied ts s {p} {d} {reply} room w e = split (askedAll Open ts) refl w
+    where
+      split : (g : Gate) → askedAll Open ts ≡ g → AppendsBy g (l .init) (min (l .inits) limit) s p d
+          → reply ≡ settledReply g l (holding l (withInit (textOf l) (joined (textOf l .init) s)))
+      split Open eg v =
+          e
+          ∙ ap (λ (x : Appended). initReply x d l) (v .answer)
+          ∙ ap (λ (x : Cmdline). record { answer = answer.Accepted; line = x })
+          (init-held l lb li s d (min (l .inits) limit) (min (min (l .inits) limit + length (spaceAfter (min (l .inits) limit) ++ s)) (length (l .init))) refl
+          (room (open-all ts eg)) (record { bytes = v .bytes; place = refl }))
+      split (Shut r) eg v = e ∙ ap (λ (x : Appended). initReply x d l) (v .answer)
+
+  pub init-args-replied : (slug : List ℕ) {p : Appended} {d : List ℕ} {reply : Reply}
+      → Appends (initAppend (min (l .boots) limit) (min (l .inits) limit) (min (l .capacity) limit) slug) (l .init) (min (l .inits) limit) p d
+      → reply ≡ initReply p d l → reply ≡ replyOf l (insertInitArgs (textOf l) slug)
+  unfolding insertInitArgs initAppend
+  init-args-replied slug {p} {d} w e =
+      init-replied (insertInitArgs (textOf l) slug .tests) (trim slug) {p = p} {d = d} (λ hold. hold .1 .0) (rw (boot-long l lb li, init-long l lb li) w) e
