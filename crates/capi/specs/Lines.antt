@@ -13,7 +13,7 @@ use Rattle.answers.specs.declared.Refusal.the-variants.{NoRoom, InvalidCapacity
 use Rattle.answers.specs.declared.Gate.{Gate}
 use Rattle.answers.specs.declared.Gate.the-variants.{Open, Shut}
 use Rattle.fields.specs.Numbers.{le}
-use Rattle.bzimage.specs.Header.{bytesOf}
+use Rattle.fields.specs.Numbers.{leBytes}
 use Rattle.slugs.specs.Bytes.{every}
 use Rattle.cmdline.specs.declared.Cmdline.{Cmdline}
 use Rattle.cmdline.specs.declared.Answer.{Answer}
@@ -59,7 +59,7 @@ textIn bytes = textOf (lineOf bytes)
 
 -- the bytes that hold a line
 unfoldable pub bytesOfLine : Cmdline → List ℕ
-bytesOfLine l = bytesOf 8 (l .boots) ++ bytesOf 8 (l .inits) ++ bytesOf 8 (l .capacity) ++ l .boot ++ l .init
+bytesOfLine l = leBytes 8 (l .boots) ++ leBytes 8 (l .inits) ++ leBytes 8 (l .capacity) ++ l .boot ++ l .init
 
 unfoldable pub zero : ℕ → Bool
 zero byte = eqb byte 0

@@ -7,7 +7,7 @@ ghost use lib.ListN.{length};
 ghost use lib.Seq.{sets};
 ghost use Rattle.answers.specs.Pick.{pick};
 ghost use Rattle.answers.specs.Tests.{askedAll};
-ghost use Rattle.bzimage.specs.Header.{bytesOf};
+ghost use Rattle.fields.specs.Numbers.{leBytes};
 ghost use Rattle.cmdline.specs.Limit.{limit};
 ghost use Rattle.cmdline.specs.Text.{sizeOf};
 ghost use Rattle.cmdline.specs.Writing.{writtenNumber};
@@ -132,7 +132,7 @@ pub fn look(gate: Gate, bytes: &[u8]) -> Held
 
 // The 8 bytes of a number, the least first.
 fn bytes_of(v: u64) -> [u8; 8]
-    ensures { λ r. ⌜ r ≡ bytesOf 8 v ⌝ }
+    ensures { λ r. ⌜ r ≡ leBytes 8 v ⌝ }
 {
     let v1 = v / 256;
     let v2 = v1 / 256;

@@ -17,9 +17,10 @@ use Rattle.guest.specs.Stream.{pour, streamAt}
 use Rattle.guest.specs.declared.Given.{Given}
 use Rattle.guest.specs.declared.Given.the-variants.{Nothing, At}
 use Rattle.guest.specs.declared.GuestAddress.{GuestAddress}
+use Rattle.reading.specs.Notes.{noteHeaderOf}
 use Rattle.elf.specs.Header.{magic, standWithin}
 use Rattle.elf.specs.ProgramHeaders.{headerAt}
-use Rattle.elf.specs.Notes.{noteHeaderOf, isWanted, skipOf, turnAt, walkFrom, walkOf, withoutNote, saidOf, entryOf, told, publicNote}
+use Rattle.elf.specs.Notes.{isWanted, skipOf, turnAt, walkFrom, walkOf, saidOf, entryOf, told, publicNote}
 use Rattle.elf.specs.Survey.{segmentStep, noteStep, stepOf, advanced, surveyFrom}
 use Rattle.elf.specs.Pouring.{segmentStream, streamFrom, planOf}
 use Rattle.elf.specs.declared.PvhBootCapability.the-variants.{PvhEntryPresent, PvhEntryIgnored}
@@ -66,7 +67,7 @@ pub data Reply : Type 0 where
   walks : ElfNote → Reply
 
 unfoldable pub reply : Ask → Reply
-unfolding e1 note pick asked le liesWithin tagAt amountOf isGiven room allowed pour streamAt standWithin behindTests headerAt noteHeaderOf isWanted skipOf turnAt walkFrom walkOf withoutNote saidOf entryOf told publicNote segmentStep noteStep stepOf advanced surveyFrom segmentStream streamFrom
+unfolding e1 note pick asked le liesWithin tagAt amountOf isGiven room allowed pour streamAt standWithin behindTests headerAt noteHeaderOf isWanted skipOf turnAt walkFrom walkOf saidOf entryOf told publicNote segmentStep noteStep stepOf advanced surveyFrom segmentStream streamFrom
 reply (Load size offset highmem) =
     let plan = planOf e1 (memoryOf (zeros size)) offset highmem in
     loads (plan .answer) (pour (plan .stream) (zeros size))

@@ -30,9 +30,10 @@ use Rattle.guest.specs.declared.Given.{Given}
 use Rattle.guest.specs.declared.ImagePlace.{ImagePlace}
 use Rattle.guest.specs.declared.Memory.{Memory}
 use Rattle.guest.proofs.LoadingLaws.{LiftPlan, behind-keeps}
+use Rattle.reading.specs.Notes.{noteHeaderOf}
 use Rattle.elf.specs.Header.{headerSize, programHeaderSize, magic, e-phoff, e-phnum, standWithin, lengthTests, fieldTests, placeTests, tests}
 use Rattle.elf.specs.ProgramHeaders.{headerPlace, headerAt, headerOf, HeadersStand}
-use Rattle.elf.specs.Notes.{noteHeaderSize, noteHeaderOf, xen, turnAt, afterTurn, walkFrom, twelves, walkOf, withoutNote, saidOf, entryOf}
+use Rattle.elf.specs.Notes.{noteHeaderSize, xen, turnAt, afterTurn, walkFrom, twelves, walkOf, saidOf, entryOf}
 use Rattle.elf.specs.Survey.{segmentStep, saidStep, noteStep, stepOf, advanced, blank, afterStep, surveyFrom, loadAddress, surveyOf}
 use Rattle.elf.specs.Pouring.{segmentStream, streamFrom, surveyPlan, planOf}
 use Rattle.elf.specs.Fits.{FitsIfAny}
@@ -203,7 +204,7 @@ module _ (s t : List ℕ) (Lifts : Refusal → Type 0) (lifts : (r : Refusal) �
   said-longer (walk.Refused r) = same
 
   said-of : {w w' : Walked} → Keeps (LiftWalked Lifts) w w' → Keeps (LiftSaid Lifts) (saidOf s (w .walk)) (saidOf (s ++ t) (w' .walk))
-  unfolding saidOf withoutNote
+  unfolding saidOf
   said-of {w} same = said-longer (w .walk)
   said-of (lifted (lift-walked l)) = lifted (lift-said l)
 

@@ -11,3 +11,4 @@ pub mod Lengthened
 pub mod MoreRoom
 pub mod Outcomes
 pub mod Cases
+pub mod NoteVerdicts

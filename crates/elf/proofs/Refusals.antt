@@ -11,12 +11,13 @@ use Rattle.guest.specs.Addresses.{amountOf}
 use Rattle.guest.specs.declared.Given.{Given}
 use Rattle.guest.specs.declared.ImagePlace.{ImagePlace}
 use Rattle.guest.specs.declared.Memory.{Memory}
-use Rattle.elf.specs.Notes.{noteHeaderOf, skipOf, turnAt, afterTurn, walkFrom, twelves, walkOf, withoutNote, saidOf, entryOf}
+use Rattle.reading.specs.Notes.{noteHeaderOf}
+use Rattle.reading.specs.declared.NoteHeader.{NoteHeader}
+use Rattle.elf.specs.Notes.{skipOf, turnAt, afterTurn, walkFrom, twelves, walkOf, saidOf, entryOf}
 use Rattle.elf.specs.Survey.{segmentStep, saidStep, noteStep, stepOf}
 use Rattle.elf.specs.declared.PvhBootCapability.{PvhBootCapability}
 use Rattle.elf.specs.declared.NoteAnswer.{NoteAnswer}
 use Rattle.elf.specs.declared.NoteAnswer.the-variants as answer
-use Rattle.elf.specs.declared.notes.NoteHeader.{NoteHeader}
 use Rattle.elf.specs.declared.notes.Turn.{Turn}
 use Rattle.elf.specs.declared.notes.Turn.the-variants as turn
 use Rattle.elf.specs.declared.notes.Walk.{Walk}
@@ -76,7 +77,7 @@ walk-of (suc left) image from size read headers =
     (λ _. ends)
 
 said-of : (image : List ℕ) {w : Walk} → WalkOf w → SaidOf (saidOf image w)
-unfolding saidOf withoutNote
+unfolding saidOf
 said-of image finds = pick-with SaidOf _ (λ _. pick-with SaidOf _ (λ _. says) (λ _. refuses short)) (λ _. refuses small)
 said-of image ends = says
 said-of image (refuses r) = refuses r

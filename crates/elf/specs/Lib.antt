@@ -8,3 +8,4 @@ pub mod Load
 pub mod Verdict
 pub mod ByteRule
 pub mod Lengthening
+pub mod NoteVerdict
