@@ -11,4 +11,3 @@ pub mod ZeroPast
 pub mod Growing
 pub mod Keeping
 pub mod Calls
-pub mod Cases

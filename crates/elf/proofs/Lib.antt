@@ -10,5 +10,4 @@ pub mod HeaderCount
 pub mod Lengthened
 pub mod MoreRoom
 pub mod Outcomes
-pub mod Cases
 pub mod NoteVerdicts
