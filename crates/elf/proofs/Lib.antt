@@ -7,8 +7,9 @@ pub mod Verdicts
 pub mod Refusals
 pub mod ByteRules
 pub mod HeaderCount
+pub mod NoteVerdicts
+pub mod NotesLengthened
 pub mod Lengthened
 pub mod MoreRoom
 pub mod Outcomes
 pub mod Cases
-pub mod NoteVerdicts
