@@ -4,7 +4,7 @@ use mathlib.Core.Path.{_≡_, refl, sym, _∙_, ap}
 use mathlib.Core.List.{List, [], _∷_}
 use native.Mathlib.Omega.{arith}
 use native.Mathlib.Nat.{add-zero, add-suc}
-use lib.ListN.{length, getD, set, drop, replicate, length-drop}
+use lib.ListN.{length, getD, drop, replicate, length-drop}
 use lib.Seq.{sets, take-all, getD-drop}
 use borrow.Rule.Slice.PartMut.{midOf}
 use Rattle.fields.specs.Numbers.{leBytes}

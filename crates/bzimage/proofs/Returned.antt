@@ -1,13 +1,13 @@
 -- The sentence "the returned header holds the load address's low 32 bits in `code32_start`, all else as read", byte by byte, with the
 -- bytes past the image as 0; and what stands beside a refusal: 123 zeros.
-use Prim.Native.Nat.{ℕ, zero, suc, _+_, _-_, _%_, _^_, _≤_, _<_}
+use Prim.Native.Nat.{ℕ, zero, suc, _+_, _-_, _<_}
 use mathlib.Core.Path.{_≡_, sym, _∙_, refl, ap, subst⁻¹}
 use mathlib.Core.List.{List}
 use native.Mathlib.Omega.{arith}
 use lib.ListN.{length, getD, replicate}
-use lib.Seq.{sets, length-sets}
+use lib.Seq.{length-sets}
 use Rattle.answers.specs.declared.Refusal.{Refusal}
-use Rattle.fields.specs.Numbers.{le, leBytes}
+use Rattle.fields.specs.Numbers.{leBytes}
 use Rattle.fields.proofs.CopyingLaws.{sets-outside}
 use Rattle.fields.proofs.HasBytesLaws.{stored-at}
 use Rattle.fields.proofs.NumbersLaws.{length-le-bytes, le-low}
@@ -17,7 +17,7 @@ use Rattle.guest.specs.Room.{memoryOf}
 use Rattle.bzimage.specs.declared.Answer.the-variants.{Loaded, Refused}
 use Rattle.bzimage.specs.declared.KernelLoaderResult.{KernelLoaderResult}
 use Rattle.bzimage.specs.declared.Outcome.{Outcome}
-use Rattle.bzimage.specs.SetupHeader.{headerSize, headerStart, code32Start}
+use Rattle.bzimage.specs.SetupHeader.{headerSize, headerStart}
 use Rattle.bzimage.specs.Header.{bytesFrom, headerRead, headerOf}
 use Rattle.bzimage.specs.Plan.{loadedAt, refusedAs, planOf, KernelLoads}
 use Rattle.bzimage.specs.Returned.{startAt, Returned}

@@ -16,7 +16,7 @@ use Rattle.guest.specs.Addresses.{amountOf}
 use Rattle.guest.specs.Lent.{lentTests}
 use Rattle.guest.specs.declared.Given.{Given}
 use Rattle.guest.specs.declared.Memory.{Memory}
-use Rattle.elf.specs.Header.{headerSize, programHeaderSize, e-entry, e-phoff, e-phnum, standWithin, lengthTests, fieldTests, placeTests, headerTests, tests}
+use Rattle.elf.specs.Header.{headerSize, programHeaderSize, e-entry, e-phoff, e-phnum, standWithin, lengthTests, fileTests, entryTests, standTests, fieldTests, headerTests, tests}
 use Rattle.elf.specs.ProgramHeaders.{headerPlace, HeadersStand}
 
 -- n program headers within the image: each of them stands there
@@ -46,20 +46,21 @@ module _ (image : List ℕ) (m : Memory) (offset highmem : Given) (hold : AllHol
   header-hold : AllHold (headerTests image offset highmem)
   header-hold = hold-right (lentTests (length image) m) (headerTests image offset highmem) hold
 
-  place-hold : AllHold (placeTests image offset)
-  place-hold =
-      hold-right (fieldTests image highmem) (placeTests image offset)
-      (hold-right (lengthTests image) (fieldTests image highmem ++ placeTests image offset) header-hold)
+  -- the tests behind those of the file: of the entry point, and of the program headers
+  entry-hold : AllHold (entryTests image offset highmem ++ standTests image)
+  entry-hold =
+      hold-right (fileTests image) (entryTests image offset highmem ++ standTests image)
+      (hold-right (lengthTests image) (fieldTests image offset highmem) header-hold)
 
   -- the header stands in the image
   pub header-stands : headerSize ≤ length image
-  header-stands =
-      leb-true headerSize (length image) (hold-left (lengthTests image) (fieldTests image highmem ++ placeTests image offset) header-hold .0)
+  header-stands = leb-true headerSize (length image) (hold-left (lengthTests image) (fieldTests image offset highmem) header-hold .0)
 
   -- the load address is below 2^64
   pub load-fits : amountOf offset + e-entry image ≤ top64
-  load-fits = within-sum top64 (amountOf offset) (e-entry image) (place-hold .0)
+  load-fits =
+      within-sum top64 (amountOf offset) (e-entry image) (hold-left (entryTests image offset highmem) (standTests image) entry-hold .1 .0)
 
   -- every program header stands in the image
   pub headers-stand : HeadersStand image (e-phnum image)
-  headers-stand = stand-all image (e-phnum image) (place-hold .1 .0)
+  headers-stand = stand-all image (e-phnum image) (hold-right (entryTests image offset highmem) (standTests image) entry-hold .0)

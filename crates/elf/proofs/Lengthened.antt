@@ -2,38 +2,31 @@
 -- serves the image and guest memory, alone and together: a refusal for image bytes lifts, or nothing was added to the image.
 use Prim.Native.Nat.{ℕ, zero, suc, _+_, _≤_, _<_}
 use mathlib.Core.Path.{_≡_, sym, _∙_, refl, ap, subst, subst⁻¹}
-use mathlib.Core.Bool.{true}
-use mathlib.Core.List.{List, _++_, append-nil, []}
+use mathlib.Core.List.{List, [], _∷_, _++_}
 use mathlib.Core.Logic.{_⊎_, ⊎-elim}
 use native.Mathlib.Omega.{arith}
 use native.Mathlib.Nat.{zero-add}
 use native.Mathlib.Decide.{decLe, ℕ-discrete}
 use borrow.Author.Tests.{leb-true}
 use lib.Dec.{leb}
-use lib.ListN.{length, drop, length-append, length-drop}
+use lib.ListN.{length, drop, length-drop}
 use lib.Seq.{take-append-le, drop-append-le}
-use Rattle.answers.specs.Pick.{pick}
 use Rattle.answers.specs.Tests.{AllHold}
 use Rattle.answers.specs.Keeping.{Keeps, same, lifted, Widens, end, stays, grows}
 use Rattle.answers.specs.declared.Refusal.{Refusal}
-use Rattle.answers.specs.declared.Refusal.the-variants.{ReadElfHeader, ReadProgramHeader, ReadKernelImage}
+use Rattle.answers.specs.declared.Refusal.the-variants.{ReadElfHeader, ReadProgramHeader, ReadKernelImage, ReadNoteHeader}
 use Rattle.answers.proofs.KeepingLaws.{equal, pick-grows, pick-same, leb-grows, widens-append, widens-same}
-use Rattle.fields.specs.Ranges.{liesWithin}
 use Rattle.fields.proofs.NumbersLaws.{le-append}
-use Rattle.fields.proofs.RangesLaws.{within-sum, within-grows}
 use Rattle.fields.proofs.TagsLaws.{tag-append}
 use Rattle.guest.specs.Addresses.{amountOf}
 use Rattle.guest.specs.Lent.{lentTests}
 use Rattle.guest.specs.Loading.{RefusedFor}
 use Rattle.guest.specs.Room.{Grows}
 use Rattle.guest.specs.declared.Given.{Given}
-use Rattle.guest.specs.declared.ImagePlace.{ImagePlace}
 use Rattle.guest.specs.declared.Memory.{Memory}
 use Rattle.guest.proofs.LoadingLaws.{LiftPlan, behind-keeps}
-use Rattle.reading.specs.Notes.{noteHeaderOf}
-use Rattle.elf.specs.Header.{headerSize, programHeaderSize, magic, e-phoff, e-phnum, standWithin, lengthTests, fieldTests, placeTests, tests}
+use Rattle.elf.specs.Header.{headerSize, programHeaderSize, magic, e-phoff, e-phnum, standWithin, lengthTests, fileTests, entryTests, standTests, fieldTests, tests}
 use Rattle.elf.specs.ProgramHeaders.{headerPlace, headerAt, headerOf, HeadersStand}
-use Rattle.elf.specs.Notes.{noteHeaderSize, xen, turnAt, afterTurn, walkFrom, twelves, walkOf, saidOf, entryOf}
 use Rattle.elf.specs.Survey.{segmentStep, saidStep, noteStep, stepOf, advanced, blank, afterStep, surveyFrom, loadAddress, surveyOf}
 use Rattle.elf.specs.Pouring.{segmentStream, streamFrom, surveyPlan, planOf}
 use Rattle.elf.specs.Fits.{FitsIfAny}
@@ -41,12 +34,6 @@ use Rattle.elf.specs.Lengthening.{ForBytes, header, program-header, segm
 use Rattle.elf.specs.declared.KernelLoaderResult.{KernelLoaderResult}
 use Rattle.elf.specs.declared.Answer.the-variants.{Refused}
 use Rattle.elf.specs.declared.NoteAnswer.{NoteAnswer}
-use Rattle.elf.specs.declared.NoteAnswer.the-variants as answer
-use Rattle.elf.specs.declared.notes.Turn.{Turn}
-use Rattle.elf.specs.declared.notes.Turn.the-variants as turn
-use Rattle.elf.specs.declared.notes.Walk.{Walk}
-use Rattle.elf.specs.declared.notes.Walk.the-variants as walk
-use Rattle.elf.specs.declared.notes.Walked.{Walked}
 use Rattle.elf.specs.declared.program_headers.ProgramHeader.{ProgramHeader}
 use Rattle.elf.specs.declared.survey.Effect.{Effect}
 use Rattle.elf.specs.declared.survey.Step.{Step}
@@ -56,19 +43,11 @@ use Rattle.elf.proofs.HeaderLaws.{stand-grows, header-stands, headers-s
 use Rattle.elf.proofs.SurveyLaws.{written-stand}
 use Rattle.elf.proofs.PouringLaws.{stream-none, stream-empty, stream-loads}
 use Rattle.elf.proofs.FitsLaws.{survey-fits}
+use Rattle.elf.proofs.NotesLengthened.{LiftSaid, lift-said, longer, as-long, pick-image, entry-longer}
 
--- ---- the kinds that may lift, from a note up to the plan
+-- ---- the kinds that may lift, from a program header up to the plan
 
 module _ (Lifts : Refusal → Type 0) where
-  data LiftTurn : Turn → Type 0 where
-    lift-turn : {r : Refusal} → Lifts r → LiftTurn (turn.Refused r)
-
-  data LiftWalked : Walked → Type 0 where
-    lift-walked : {r : Refusal} {headers : ℕ} → Lifts r → LiftWalked (record { walk = walk.Refused r; headers = headers })
-
-  data LiftSaid : NoteAnswer → Type 0 where
-    lift-said : {r : Refusal} → Lifts r → LiftSaid (answer.Refused r)
-
   data LiftStep : Step → Type 0 where
     lift-step : {r : Refusal} → Lifts r → LiftStep (Stop r)
 
@@ -77,17 +56,7 @@ module _ (Lifts : Refusal → Type 0) where
 
   -- what follows each of them
 
-  turn-after : (headers : ℕ) {x x' : Turn} {more more' : ℕ → Walked} → Keeps LiftTurn x x' → ((k : ℕ) → Keeps LiftWalked (more k) (more' k))
-      → Keeps LiftWalked (afterTurn x headers more) (afterTurn x' headers more')
-  turn-after headers (lifted (lift-turn l)) rest = lifted (lift-walked l)
-  turn-after headers {x} {more = more} {more' = more'} same rest = at x
-    where
-      at : (x : Turn) → Keeps LiftWalked (afterTurn x headers more) (afterTurn x headers more')
-      at (turn.Found place size) = same
-      at (turn.Skip k) = rest k
-      at (turn.Refused r) = same
-
-  said-after : {x x' : NoteAnswer} → Keeps LiftSaid x x' → Keeps LiftStep (saidStep x) (saidStep x')
+  said-after : {x x' : NoteAnswer} → Keeps (LiftSaid Lifts) x x' → Keeps LiftStep (saidStep x) (saidStep x')
   said-after same = same
   said-after (lifted (lift-said l)) = lifted (lift-step l)
 
@@ -104,10 +73,6 @@ module _ (Lifts : Refusal → Type 0) where
 -- ---- an image and what is added to it
 
 module _ (s t : List ℕ) where
-  note-append : (p : ℕ) → p + noteHeaderSize ≤ length s → noteHeaderOf (s ++ t) p ≡ noteHeaderOf s p
-  unfolding noteHeaderOf
-  note-append p h = rw (le-append 4 s t p (omega arith), le-append 4 s t (p + 4) (omega arith), le-append 4 s t (p + 8) (omega arith))
-
   pub header-append : (p : ℕ) → p + programHeaderSize ≤ length s → headerAt (s ++ t) p ≡ headerAt s p
   unfolding headerAt
   header-append p h =
@@ -153,65 +118,6 @@ module _ (s t : List ℕ) (m : Memory) (shift : ℕ) where
       )
 
 module _ (s t : List ℕ) (Lifts : Refusal → Type 0) (lifts : (r : Refusal) → ForBytes r → (t ≡ []) ⊎ Lifts r) where
-  longer : length s ≤ length (s ++ t)
-  longer = simp length-append (omega arith)
-
-  as-long : t ≡ [] → length (s ++ t) ≡ length s
-  as-long e = ap (λ u. length (s ++ u)) e ∙ ap length (append-nil s)
-
-  -- a test that bytes lie in the image, where it picks
-  pick-image : {A : Type 0} (L : A → Type 0) (at n : ℕ) {r : Refusal} {x x' y : A} → ForBytes r → (Lifts r → L y)
-      → (liesWithin (length s) at n ≡ true → Keeps L x x')
-      → Keeps L (pick (liesWithin (length s) at n) x y) (pick (liesWithin (length (s ++ t)) at n) x' y)
-  pick-image L at n {r} for lift keep =
-      ⊎-elim
-      (λ e. pick-same L (liesWithin (length s) at n) (liesWithin (length (s ++ t)) at n) (ap (λ len. liesWithin len at n) (as-long e)) keep (λ _. same))
-      (λ l. pick-grows L (liesWithin (length s) at n) (liesWithin (length (s ++ t)) at n) (within-grows (length s) (length (s ++ t)) at n longer) keep (lift l))
-      (lifts r for)
-
-  -- ---- notes
-
-  turn-longer : (p : ℕ) → p + noteHeaderSize ≤ length s → Keeps (LiftTurn Lifts) (turnAt s p) (turnAt (s ++ t) p)
-  unfolding turnAt
-  turn-longer p h =
-      rw (note-append s t p h)
-      (pick-same (LiftTurn Lifts) _ _ refl
-      (λ _. pick-image (LiftTurn Lifts) (p + noteHeaderSize) 4 note lift-turn
-      (λ e. pick-same (LiftTurn Lifts) _ _
-      (let stands = within-sum (length s) (p + noteHeaderSize) 4 e in tag-append xen s t (p + noteHeaderSize) (omega arith))
-      (λ _. same) (λ _. same)))
-      (λ _. same))
-
-  walk-longer : (left from size read headers : ℕ) → Keeps (LiftWalked Lifts) (walkFrom left s from size read headers) (walkFrom left (s ++ t) from size read headers)
-  unfolding walkFrom
-  walk-longer zero from size read headers = same
-  walk-longer (suc left) from size read headers =
-      pick-same (LiftWalked Lifts) _ _ refl
-      (λ _. pick-image (LiftWalked Lifts) from (read + noteHeaderSize) note lift-walked
-      (λ e. turn-after Lifts (suc headers)
-      (let stands = within-sum (length s) from (read + noteHeaderSize) e in turn-longer (from + read) (omega arith))
-      (λ k. walk-longer left from size (read + k) (suc headers))))
-      (λ _. same)
-
-  said-longer : (w : Walk) → Keeps (LiftSaid Lifts) (saidOf s w) (saidOf (s ++ t) w)
-  unfolding saidOf
-  said-longer (walk.Found place size) =
-      pick-same (LiftSaid Lifts) _ _ refl
-      (λ _. pick-image (LiftSaid Lifts) (place .0) 4 note lift-said
-      (λ e. let stands = within-sum (length s) (place .0) 4 e in rw (le-append 4 s t (place .0) stands) same))
-      (λ _. same)
-  said-longer walk.NotFound = same
-  said-longer (walk.Refused r) = same
-
-  said-of : {w w' : Walked} → Keeps (LiftWalked Lifts) w w' → Keeps (LiftSaid Lifts) (saidOf s (w .walk)) (saidOf (s ++ t) (w' .walk))
-  unfolding saidOf
-  said-of {w} same = said-longer (w .walk)
-  said-of (lifted (lift-walked l)) = lifted (lift-said l)
-
-  entry-longer : (from : ImagePlace) (size : ℕ) → Keeps (LiftSaid Lifts) (entryOf s from size .answer) (entryOf (s ++ t) from size .answer)
-  unfolding entryOf walkOf
-  entry-longer from size = said-of (walk-longer (twelves size) (from .0) size 0 0)
-
   -- ---- program headers, with more guest memory too
 
   module _ (m m' : Memory) (more-memory : Grows m m') (lifts-room : Lifts ReadKernelImage) (offset highmem : Given) where
@@ -219,13 +125,13 @@ module _ (s t : List ℕ) (Lifts : Refusal → Type 0) (lifts : (r : Refusal) �
     unfolding segmentStep
     segment-longer shift h =
         pick-same (LiftStep Lifts) _ _ refl
-        (λ _. pick-image (LiftStep Lifts) (h .«p_offset» .0) (h .«p_filesz») segment lift-step
+        (λ _. pick-image s t (LiftStep Lifts) (h .«p_offset» .0) (h .«p_filesz») (lifts ReadKernelImage segment) lift-step
         (λ _. pick-grows (LiftStep Lifts) _ _ (more-memory .rooms _ _) (λ _. same) (lift-step lifts-room)))
         (λ _. same)
 
     note-longer : (h : ProgramHeader) → Keeps (LiftStep Lifts) (noteStep s offset h) (noteStep (s ++ t) offset h)
     unfolding noteStep
-    note-longer h = pick-same (LiftStep Lifts) _ _ refl (λ _. same) (λ _. said-after Lifts (entry-longer (h .«p_offset») (h .«p_filesz»)))
+    note-longer h = pick-same (LiftStep Lifts) _ _ refl (λ _. same) (λ _. said-after Lifts (entry-longer s t Lifts (lifts ReadNoteHeader note) (h .«p_offset») (h .«p_filesz»)))
 
     step-longer : (h : ProgramHeader) → Keeps (LiftStep Lifts) (stepOf s m offset h) (stepOf (s ++ t) m' offset h)
     unfolding stepOf
@@ -266,11 +172,17 @@ module _ (s t : List ℕ) (Lifts : Refusal → Type 0) (lifts : (r : Refusal) �
     module _ (lent : Widens Lifts (lentTests (length s) m) (lentTests (length (s ++ t)) m')) where
       length-asked : Widens Lifts (lengthTests s) (lengthTests (s ++ t))
       length-asked =
-          ⊎-elim (λ e. stays (ap (leb headerSize) (as-long e)) (λ _. end)) (λ l. grows (leb-grows headerSize (length s) (length (s ++ t)) longer) l (λ _. end))
+          ⊎-elim (λ e. stays (ap (leb headerSize) (as-long s t e)) (λ _. end)) (λ l. grows (leb-grows headerSize (length s) (length (s ++ t)) (longer s t)) l (λ _. end))
           (lifts ReadElfHeader header)
 
+      stand-asked : Widens Lifts (standTests s) ((standWithin (length (s ++ t)) (e-phoff s) (e-phnum s), ReadProgramHeader) ∷ [])
+      stand-asked =
+          ⊎-elim (λ e. stays (ap (λ len. standWithin len (e-phoff s) (e-phnum s)) (as-long s t e)) (λ _. end))
+          (λ l. grows (stand-grows (length s) (length (s ++ t)) (e-phoff s) (e-phnum s) (longer s t)) l (λ _. end))
+          (lifts ReadProgramHeader program-header)
+
       -- the header stands in the image as it was, so its fields are the same
-      fields-asked : headerSize ≤ length s → Widens Lifts (fieldTests s highmem) (fieldTests (s ++ t) highmem)
+      fields-asked : headerSize ≤ length s → Widens Lifts (fieldTests s offset highmem) (fieldTests (s ++ t) offset highmem)
       fields-asked long =
           rw (
             tag-append magic s t 0 (omega arith),
@@ -278,20 +190,14 @@ module _ (s t : List ℕ) (Lifts : Refusal → Type 0) (lifts : (r : Refusal) �
             le-append 2 s t 54 (omega arith),
             le-append 8 s t 32 (omega arith),
             le-append 8 s t 24 (omega arith),
+            le-append 2 s t 56 (omega arith),
           )
-          (widens-same Lifts (fieldTests s highmem))
-
-      places-asked : headerSize ≤ length s → Widens Lifts (placeTests s offset) (placeTests (s ++ t) offset)
-      places-asked long =
-          rw (le-append 8 s t 24 (omega arith), le-append 8 s t 32 (omega arith), le-append 2 s t 56 (omega arith))
-          (stays refl (λ _. ⊎-elim (λ e. stays (ap (λ len. standWithin len (e-phoff s) (e-phnum s)) (as-long e)) (λ _. end))
-          (λ l. grows (stand-grows (length s) (length (s ++ t)) (e-phoff s) (e-phnum s) longer) l (λ _. end))
-          (lifts ReadProgramHeader program-header)))
+          (widens-append Lifts (widens-same Lifts (fileTests s)) (λ _. widens-append Lifts (widens-same Lifts (entryTests s offset highmem)) (λ _. stand-asked)))
 
       row-longer : Widens Lifts (tests s m offset highmem) (tests (s ++ t) m' offset highmem)
       row-longer =
-          widens-append Lifts lent (λ _. widens-append Lifts length-asked (λ stands. let long = leb-true headerSize (length s) (stands .0) in
-          widens-append Lifts (fields-asked long) (λ _. places-asked long)))
+          widens-append Lifts lent
+          (λ _. widens-append Lifts length-asked (λ stands. fields-asked (leb-true headerSize (length s) (stands .0))))
 
       pub plan-longer : Keeps (LiftPlan Refused Lifts) (planOf s m offset highmem) (planOf (s ++ t) m' offset highmem)
       plan-longer = behind-keeps Refused Lifts row-longer (λ hold. survey-planned hold (whole-longer hold))

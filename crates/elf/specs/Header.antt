@@ -51,26 +51,33 @@ standWithin len phoff n = pick (eqb n 0) true (liesWithin len phoff (programHead
 abbrev pub lengthTests : List ℕ → List Test
 lengthTests image = (leb headerSize (length image), refusal.ReadElfHeader) ∷ []
 
--- its fields
-abbrev pub fieldTests : List ℕ → Given → List Test
-fieldTests image highmem =
+-- what it says of the file
+abbrev pub fileTests : List ℕ → List Test
+fileTests image =
     (tagAt magic image 0, refusal.InvalidElfMagicNumber)
     ∷ (eqb (ei-data image) 1, refusal.BigEndianElfOnLittle)
     ∷ (eqb (e-phentsize image) programHeaderSize, refusal.InvalidProgramHeaderSize)
     ∷ (leb headerSize (e-phoff image), refusal.InvalidProgramHeaderOffset)
-    ∷ (leb (amountOf highmem) (e-entry image), refusal.InvalidEntryAddress)
     ∷ []
 
--- the load address and the program headers
-abbrev pub placeTests : List ℕ → Given → List Test
-placeTests image offset =
-    (fits64 (amountOf offset) (e-entry image), refusal.Overflow)
-    ∷ (standWithin (length image) (e-phoff image) (e-phnum image), refusal.ReadProgramHeader)
+-- the entry point, and the load address
+abbrev pub entryTests : List ℕ → Given → Given → List Test
+entryTests image offset highmem =
+    (leb (amountOf highmem) (e-entry image), refusal.InvalidEntryAddress)
+    ∷ (fits64 (amountOf offset) (e-entry image), refusal.Overflow)
     ∷ []
 
--- the tests of the header, in order
+-- the program headers stand in the image
+abbrev pub standTests : List ℕ → List Test
+standTests image = (standWithin (length image) (e-phoff image) (e-phnum image), refusal.ReadProgramHeader) ∷ []
+
+-- the fields of the header, in order
+abbrev pub fieldTests : List ℕ → Given → Given → List Test
+fieldTests image offset highmem = fileTests image ++ entryTests image offset highmem ++ standTests image
+
+-- the tests of the header: that it stands in the image, then its fields
 abbrev pub headerTests : List ℕ → Given → Given → List Test
-headerTests image offset highmem = lengthTests image ++ fieldTests image highmem ++ placeTests image offset
+headerTests image offset highmem = lengthTests image ++ fieldTests image offset highmem
 
 -- the tests before the program headers: of what is lent, then of the header
 abbrev pub tests : List ℕ → Memory → Given → Given → List Test

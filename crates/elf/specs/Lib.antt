@@ -6,6 +6,6 @@ pub mod Pouring
 pub mod Fits
 pub mod Load
 pub mod Verdict
+pub mod NoteVerdict
 pub mod ByteRule
 pub mod Lengthening
-pub mod NoteVerdict
