@@ -1,8 +1,8 @@
 -- Laws of room, of memory that grows, and of allowed sizes. Whoever asks for room cites these and does not look behind the name.
-use mathlib.Core.Path.{_≡_, sym, _∙_}
-use mathlib.Core.Bool.{true}
+use mathlib.Core.Path.{_≡_, sym, _∙_, refl}
+use mathlib.Core.Bool.{Bool, true, false}
 use mathlib.Core.List.{List, _++_}
-use Prim.Native.Nat.{ℕ, _+_, _≤_}
+use Prim.Native.Nat.{ℕ, _+_, _≤_, _<_}
 use native.Mathlib.Omega.{arith}
 use borrow.Author.Tests.{le-leb}
 use lib.ListN.{length, length-append}
@@ -18,6 +18,14 @@ use Rattle.guest.specs.declared.Memory.{Memory}
 pub room-size : (m : Memory) (address n : ℕ) → room m address n ≡ true → address + n ≤ m .size
 unfolding room
 room-size m address n e = within-sum (m .size) address n e
+
+-- so what passes the size has none
+pub room-beyond : (m : Memory) (address n : ℕ) → m .size < address + n → room m address n ≡ false
+room-beyond m address n lt = by-test (room m address n) refl
+  where
+    by-test : (b : Bool) → room m address n ≡ b → b ≡ false
+    by-test false e = refl
+    by-test true e = let sum = room-size m address n e in absurd (omega arith)
 
 -- a part of what has room has room
 pub room-part : (m : Memory) (address n at k : ℕ) → room m address n ≡ true → address ≤ at → at + k ≤ address + n → room m at k ≡ true

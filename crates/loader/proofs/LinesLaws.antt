@@ -1,45 +1,60 @@
 -- Laws of the plan by which a line is loaded.
-use Prim.Native.Nat.{ℕ, _≤_, min}
-use mathlib.Core.Path.{_≡_, sym, _∙_, refl, ap, subst}
-use mathlib.Core.Bool.{Bool, true}
+use Prim.Native.Nat.{ℕ, _+_, _≤_}
+use mathlib.Core.Path.{_≡_, _∙_, refl, subst}
+use mathlib.Core.Bool.{Bool, true, false, not}
 use mathlib.Core.List.{List, [], _∷_, _++_}
 use native.Mathlib.Omega.{arith}
-use lib.ListN.{length, take, length-append, length-take}
+use borrow.Author.Tests.{leb-true, leb-false, eq-eqb, ne-eqb}
+use lib.Dec.{leb}
+use lib.ListN.{length, length-append}
+use Rattle.answers.specs.Pick.{pick}
 use Rattle.answers.specs.Tests.{Test, asked, isOpen, askedAll, AllHold, FirstFails}
 use Rattle.answers.specs.declared.Refusal.{Refusal}
 use Rattle.answers.specs.declared.Refusal.the-variants.{InvalidCommandLine, CommandLineOverflow}
 use Rattle.answers.specs.declared.Gate.{Gate}
 use Rattle.answers.specs.declared.Gate.the-variants.{Open}
+use Rattle.answers.proofs.PickLaws.{held}
 use Rattle.answers.proofs.TestsLaws.{hold-right}
-use Rattle.cmdline.specs.Limit.{limit}
 use Rattle.cmdline.specs.Text.{Text, sizeOf}
 use Rattle.cmdline.specs.Writing.{wholeOf, textGate, bare}
 use Rattle.cmdline.proofs.WritingLaws.{whole-size}
 use Rattle.guest.specs.Lent.{memoryTests}
 use Rattle.guest.specs.Room.{room}
 use Rattle.guest.specs.declared.Memory.{Memory}
+use Rattle.guest.proofs.RoomLaws.{room-beyond}
 use Rattle.guest.proofs.LoadingLaws.{behind-with}
 use Rattle.loader.specs.declared.Answer.the-variants.{Loaded, Refused}
 use Rattle.loader.specs.Lines.{lineBytes, textRow, roomRow, tests, linePlan, planOf}
 
--- the size that code works out is the length of the line and its zero
-pub line-length : (b i : List ℕ) {n : ℕ} → length b ≤ limit → length i ≤ limit → n ≡ sizeOf (min (length b) limit) (min (length i) limit)
-    → n ≡ length (lineBytes (bare b i))
-line-length b i eb ei en =
-    let bs : min (length b) limit ≡ length b = omega arith in
-    let is : min (length i) limit ≡ length i = omega arith in
-    en ∙ rw (bs, is) (sym (whole-size b i)) ∙ sym (length-append (wholeOf b i) (0 ∷ []))
-
--- the part of a buffer that a text is, no longer than the limit
-pub short-part : (n : ℕ) (l : List ℕ) {k : ℕ} → k ≡ min n limit → length (take k l) ≤ limit
-short-part n l e = simp length-take (omega arith)
+-- the line and its zero have the counted size
+line-length : (b i : List ℕ) → length (lineBytes (bare b i)) ≡ sizeOf (length b) (length i)
+line-length b i = length-append (wholeOf b i) (0 ∷ []) ∙ whole-size b i
 
 -- the tests as code asks them, one after the other
-pub tests-asked : (b i : List ℕ) (m : Memory) (address : ℕ) {lent text-said texts all : Gate} {good has : Bool} {n : ℕ} → length b ≤ limit → length i ≤ limit
-    → n ≡ sizeOf (min (length b) limit) (min (length i) limit) → lent ≡ askedAll Open (memoryTests m) → text-said ≡ textGate (bare b i) → good ≡ isOpen text-said
-    → texts ≡ asked lent good InvalidCommandLine → has ≡ room m address n → all ≡ asked texts has CommandLineOverflow
-    → all ≡ askedAll Open (tests (bare b i) m address)
-tests-asked b i m address short-boot short-init en el et eg ex eh ea = rw (ea, eh, line-length b i short-boot short-init en, ex, eg, et, el)
+pub tests-asked : (b i : List ℕ) (m : Memory) (address : ℕ) {lent text-said texts all : Gate} {good has : Bool} → lent ≡ askedAll Open (memoryTests m)
+    → text-said ≡ textGate (bare b i) → good ≡ isOpen text-said → texts ≡ asked lent good InvalidCommandLine → has ≡ room m address (sizeOf (length b) (length i))
+    → all ≡ asked texts has CommandLineOverflow → all ≡ askedAll Open (tests (bare b i) m address)
+tests-asked b i m address el et eg ex eh ea = rw (line-length b i, ea, eh, ex, eg, et, el)
+
+-- ---- room for a line, whose size is summed only where it does not pass memory
+
+pub long-line : (m : Memory) (address b i : ℕ) → leb (sizeOf b i) (m .size) ≡ false → room m address (sizeOf b i) ≡ false
+long-line m address b i e = let over = leb-false (sizeOf b i) (m .size) e in room-beyond m address (sizeOf b i) (omega arith)
+
+pub boot-alone : (b i : ℕ) → i ≡ 0 → b + 1 ≡ sizeOf b i
+unfolding sizeOf pick
+boot-alone b i e = rw (eq-eqb i 0 e) (omega arith)
+
+pub both-parts : (b i : ℕ) → (i ≡ 0 → ⊥) → b + 1 + (4 + i) ≡ sizeOf b i
+unfolding sizeOf pick
+both-parts b i n = rw (ne-eqb i 0 n)
+
+-- what code asked says that the sums fit memory's size
+pub boot-fits : (b i size : ℕ) {t : Bool} → i ≡ 0 → t ≡ leb (sizeOf b i) size → not t ≡ false → b + 1 ≤ size
+boot-fits b i size e asks is = let sum = boot-alone b i e in let fits = leb-true (sizeOf b i) size (held asks is) in omega arith
+
+pub both-fit : (b i size : ℕ) {t : Bool} → (i ≡ 0 → ⊥) → t ≡ leb (sizeOf b i) size → not t ≡ false → b + 1 + (4 + i) ≤ size
+both-fit b i size n asks is = let sum = both-parts b i n in let fits = leb-true (sizeOf b i) size (held asks is) in omega arith
 
 module _ (t : Text) (m : Memory) (address : ℕ) where
   abbrev row : List Test

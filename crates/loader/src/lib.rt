@@ -10,11 +10,11 @@
 // SPDX-License-Identifier: Apache-2.0 AND BSD-3-Clause
 
 // A command line put into guest memory. The tests come first, in their order; then the line is written where it has room.
-ghost use Prim.Native.Nat.{_≤_};
-ghost use lib.ListN.{length, take};
+ghost use mathlib.Core.Path.{_≡_};
 ghost use Rattle.cmdline.specs.Held.{textOf};
-ghost use Rattle.cmdline.specs.Limit.{limit};
+ghost use Rattle.cmdline.specs.Text.{sizeOf};
 ghost use Rattle.cmdline.specs.Writing.{bare};
+ghost use Rattle.guest.specs.Room.{room};
 ghost use Rattle.loader.specs.Lines.{LineLoads};
 use answers::Gate;
 use answers::Refusal;
@@ -33,16 +33,28 @@ pub enum Answer {
     Refused(Refusal),
 }
 
-// The line of two texts and its zero, written to an address. The part of guest memory that begins there is lent on, and the writer sees
-// only that part.
-fn load_texts(guest: &mut [u8], guest_addr: GuestAddress, boot: &[u8], init: &[u8]) -> Answer
-    requires { ⌜ (length (now boot) ≤ limit) × (length (now init) ≤ limit) ⌝ }
+// Is there room at an address for a line whose texts have these lengths, with its zero? Where the line is longer than guest memory, its size is
+// not summed.
+fn line_has_room(memory: Memory, address: GuestAddress, boots: usize, inits: usize) -> bool
+    ensures { λ r. ⌜ r ≡ room memory (address .0) (sizeOf boots inits) ⌝ }
+{
+    if !sizes::fits(memory.size as usize, boots, inits) {
+        return false;
+    }
+    if inits == 0 {
+        return room::has_room(memory, address, boots as u64 + 1);
+    }
+    room::has_room(memory, address, boots as u64 + 1 + (4 + inits as u64))
+}
+
+// Writes the line of two texts and its zero to an address. The part of guest memory that begins there is lent on, and the writer sees only
+// that part.
+pub fn load_texts(guest: &mut [u8], guest_addr: GuestAddress, boot: &[u8], init: &[u8]) -> Answer
     ensures { λ r. ⌜ LineLoads (bare (now (boot .entry)) (now (init .entry))) («guest_addr» .0) (now (guest .entry)) r (now (guest .exit)) ⌝ }
 {
     let memory = Memory {
         size: guest.len() as u64,
     };
-    let size = sizes::line_size(boot.len(), init.len()) as u64;
     let gate = lent::ask_memory(Gate::Open, memory);
     let gate = answers::require(
         gate,
@@ -51,7 +63,7 @@ fn load_texts(guest: &mut [u8], guest_addr: GuestAddress, boot: &[u8], init: &[u
     );
     let gate = answers::require(
         gate,
-        room::has_room(memory, guest_addr, size),
+        line_has_room(memory, guest_addr, boot.len(), init.len()),
         Refusal::CommandLineOverflow,
     );
     match gate {
@@ -64,16 +76,7 @@ fn load_texts(guest: &mut [u8], guest_addr: GuestAddress, boot: &[u8], init: &[u
     }
 }
 
-// The line of two texts that are lent. Of a text that is longer than the limit, which no line holds, the first LIMIT bytes count.
-pub fn load_line(guest: &mut [u8], guest_addr: GuestAddress, boot: &[u8], init: &[u8]) -> Answer
-    ensures { λ r. ⌜ LineLoads (bare (take limit (now (boot .entry))) (take limit (now (init .entry)))) («guest_addr» .0) (now (guest .entry)) r (now (guest .exit)) ⌝ }
-{
-    let boots = copying::lesser(boot.len(), LIMIT);
-    let inits = copying::lesser(init.len(), LIMIT);
-    load_texts(guest, guest_addr, &boot[..boots], &init[..inits])
-}
-
-// The line of a `Cmdline`.
+// The same of a line by value.
 pub fn load_cmdline(guest: &mut [u8], guest_addr: GuestAddress, cmdline: Cmdline) -> Answer
     ensures { λ r. ⌜ LineLoads (textOf cmdline) («guest_addr» .0) (now (guest .entry)) r (now (guest .exit)) ⌝ }
 {

@@ -5,7 +5,6 @@ use native.Mathlib.Omega.{arith}
 use lib.ListN.{length}
 use lib.Seq.{length-take-le}
 use Rattle.cmdline.specs.Limit.{limit}
-use Rattle.loader.proofs.LinesLaws.{short-part}
 use Rattle.loader.proofs.load_cmdline.Statement.{statement}
 use Rattle.loader.proofs.load_cmdline.Tie as tie
 
@@ -29,11 +28,6 @@ slice-aggregate-load-texts-2 c =
     let long : length (c .before .before .before .before .before .before .before .before .args .cmdline .init) ≡ limit = search needs in
     sym (length-take-le (c .before .before .before .before .before .lesser2 .result) (c .before .before .before .before .before .before .before .before .args .cmdline .init) (omega (arith, c .before .before .before .before .before .lesser2 .ensures)))
 
-load-texts-requires : tie.Need-load-texts-requires
-load-texts-requires c κs =
-    let line = c .before .before .before .before .before .before .before .before .args .cmdline in
-    (short-part (line .boots) (line .boot) (c .before .before .before .before .before .before .lesser .ensures), short-part (line .inits) (line .init) (c .before .before .before .before .before .lesser2 .ensures))
-
 returns : tie.Need-returns
 returns c = rw (c .before .before .before .before .before .before .before .before .before .lesser .ensures, c .before .before .before .before .before .before .before .before .lesser2 .ensures) at (c .before .before .load-texts .ensures)
 
@@ -47,6 +41,6 @@ load-cmdline-spec =
     slice-aggregate-load-texts
     array-share-prefix-init
     slice-aggregate-load-texts-2
-    load-texts-requires
+    (λ c κs. search needs)
     (λ c. search needs)
     returns)
