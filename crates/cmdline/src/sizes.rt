@@ -76,6 +76,13 @@ pub(crate) fn counted(boots: usize, inits: usize) -> usize
     boots + 1 + (4 + inits)
 }
 
+// The size of a line with its zero, by the lengths of its texts: a length above the limit counts as the limit.
+pub fn line_size(boots: usize, inits: usize) -> usize
+    ensures { λ r. ⌜ r ≡ sizeOf (min boots limit) (min inits limit) ⌝ }
+{
+    counted(copying::lesser(boots, LIMIT), copying::lesser(inits, LIMIT))
+}
+
 // What an insertion is charged before its own bytes: a space if there is boot text.
 pub(crate) fn boot_gap(boots: usize) -> usize
     ensures { λ r. ⌜ r ≡ bootGap boots ⌝ }

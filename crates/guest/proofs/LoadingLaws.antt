@@ -78,6 +78,16 @@ module _ {A : Type 0} (refused : Refusal → A) (ts : List Test) (plan : Plan A)
   pub behind-inside : (m : Memory) → (AllHold ts → Inside m (plan .stream)) → Inside m (behindTests refused ts plan .stream)
   behind-inside m inside = behind-with (λ p. Inside m (p .stream)) inside (λ r f. none)
 
+  -- what a function says that asks the tests and, where they are open, writes the plan's stream
+  pub load-refused : {gate : Gate} {r : Refusal} (before : List ℕ) → gate ≡ askedAll Open ts → gate ≡ Shut r
+      → Loads (behindTests refused ts plan) before (refused r) before
+  unfolding pour
+  load-refused before asked is = rw (tests-shut (sym asked ∙ is)) (record { answer = refl; memory = refl })
+
+  pub load-accepted : {gate : Gate} {before after : List ℕ} → gate ≡ askedAll Open ts → gate ≡ Open → after ≡ pour (plan .stream) before
+      → Loads (behindTests refused ts plan) before (plan .answer) after
+  load-accepted asked is written = rw (tests-open (sym asked ∙ is)) (record { answer = refl; memory = written })
+
 -- ---- more memory, or more image bytes: tests that widen, and a plan that is kept behind them
 
 module _ {A : Type 0} (refused : Refusal → A) (Lifts : Refusal → Type 0) where
