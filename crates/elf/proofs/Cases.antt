@@ -1,12 +1,12 @@
 -- The worked examples of an ELF load and of a note walk, proved by computation as one statement over one list.
-use Prim.Native.Nat.{ℕ, zero, suc, _+_, _/_, _%_}
+use Prim.Native.Nat.{ℕ}
 use mathlib.Core.Path.{_≡_, refl}
 use mathlib.Core.List.{List, [], _∷_, _++_, map}
 use lib.ListN.{replicate}
 use Rattle.answers.specs.Pick.{pick}
 use Rattle.answers.specs.Tests.{asked}
 use Rattle.answers.specs.declared.Refusal.the-variants as refusal
-use Rattle.fields.specs.Numbers.{le}
+use Rattle.fields.specs.Numbers.{le, leBytes}
 use Rattle.fields.specs.Ranges.{liesWithin}
 use Rattle.fields.specs.Tags.{tagAt}
 use Rattle.guest.specs.Addresses.{amountOf, isGiven}
@@ -29,11 +29,6 @@ use Rattle.elf.specs.declared.Answer.the-variants.{Loaded, Refused}
 use Rattle.elf.specs.declared.NoteAnswer.the-variants.{Says}
 use Rattle.elf.specs.declared.ElfNote.{ElfNote}
 
--- n bytes of a number, the least first
-abbrev bytesOf : ℕ → ℕ → List ℕ
-bytesOf zero v = []
-bytesOf (suc n) v = v % 256 ∷ bytesOf n (v / 256)
-
 abbrev zeros : ℕ → List ℕ
 zeros n = replicate n 0
 
@@ -48,13 +43,13 @@ body = 0xAA ∷ 0xBB ∷ 0xCC ∷ []
 unfoldable pub e1 : List ℕ
 e1 =
     magic ++ (0 ∷ 1 ∷ zeros 18)
-    ++ bytesOf 8 16 ++ bytesOf 8 64 ++ zeros 14 ++ bytesOf 2 56 ++ bytesOf 2 1 ++ zeros 6
-    ++ bytesOf 4 1 ++ zeros 4 ++ bytesOf 8 120 ++ zeros 8 ++ bytesOf 8 16 ++ bytesOf 8 3 ++ bytesOf 8 8 ++ zeros 8
+    ++ leBytes 8 16 ++ leBytes 8 64 ++ zeros 14 ++ leBytes 2 56 ++ leBytes 2 1 ++ zeros 6
+    ++ leBytes 4 1 ++ zeros 4 ++ leBytes 8 120 ++ zeros 8 ++ leBytes 8 16 ++ leBytes 8 3 ++ leBytes 8 8 ++ zeros 8
     ++ body
 
 -- the note of 20 bytes, whose descriptor is 100000 hex
 unfoldable pub note : List ℕ
-note = bytesOf 4 4 ++ bytesOf 4 4 ++ bytesOf 4 18 ++ (0x58 ∷ 0x65 ∷ 0x6E ∷ 0 ∷ []) ++ bytesOf 4 0x100000
+note = leBytes 4 4 ++ leBytes 4 4 ++ leBytes 4 18 ++ (0x58 ∷ 0x65 ∷ 0x6E ∷ 0 ∷ []) ++ leBytes 4 0x100000
 
 -- what is asked: a load of e1 into so many zeros, or a walk over the note with so many bytes of file size
 pub data Ask : Type 0 where
@@ -67,7 +62,7 @@ pub data Reply : Type 0 where
   walks : ElfNote → Reply
 
 unfoldable pub reply : Ask → Reply
-unfolding e1 note pick asked le liesWithin tagAt amountOf isGiven room allowed pour streamAt standWithin behindTests headerAt noteHeaderOf isWanted skipOf turnAt walkFrom walkOf saidOf entryOf told publicNote segmentStep noteStep stepOf advanced surveyFrom segmentStream streamFrom
+unfolding e1 note leBytes pick asked le liesWithin tagAt amountOf isGiven room allowed pour streamAt standWithin behindTests headerAt noteHeaderOf isWanted skipOf turnAt walkFrom walkOf saidOf entryOf told publicNote segmentStep noteStep stepOf advanced surveyFrom segmentStream streamFrom
 reply (Load size offset highmem) =
     let plan = planOf e1 (memoryOf (zeros size)) offset highmem in
     loads (plan .answer) (pour (plan .stream) (zeros size))
