@@ -16,7 +16,7 @@ use fields::numbers;
 use guest::GuestAddress;
 
 // The header as it is read, bytes past the image as 0, with the load address's low 32 bits in `code32_start`.
-pub fn header_with(image: &[u8], load: GuestAddress) -> [u8; 123]
+pub(crate) fn header_with(image: &[u8], load: GuestAddress) -> [u8; 123]
     ensures { λ r. ⌜ r ≡ headerOf (now (image .entry)) (load .0) ⌝ }
 {
     let mut header = [0u8; 123];

@@ -23,14 +23,14 @@ fn sectors(image: &[u8]) -> u64
 }
 
 // The setup's size: its sectors and the boot sector.
-pub fn setup_size(image: &[u8]) -> u64
+pub(crate) fn setup_size(image: &[u8]) -> u64
     ensures { λ r. ⌜ r ≡ setupSize (now (image .entry)) ⌝ }
 {
     (sectors(image) + 1) * 512
 }
 
 // The kernel's size: what the image has after its setup.
-pub fn kernel_size(image: &[u8]) -> u64
+pub(crate) fn kernel_size(image: &[u8]) -> u64
     ensures { λ r. ⌜ r ≡ kernelSize (now (image .entry)) ⌝ }
 {
     let len = image.len() as u64;
@@ -42,7 +42,7 @@ pub fn kernel_size(image: &[u8]) -> u64
 }
 
 // The address at which the image would be loaded, as its header says.
-pub fn code32_start(image: &[u8]) -> GuestAddress
+pub(crate) fn code32_start(image: &[u8]) -> GuestAddress
     ensures { λ r. ⌜ r ≡ startOf (now (image .entry)) ⌝ }
 {
     GuestAddress(numbers::read_u32(image, setup_header::place(setup_header::CODE32_START)))

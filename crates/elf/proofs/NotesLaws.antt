@@ -68,19 +68,15 @@ strides image p e = skip-bounds (subst Strides e (turn-strides image p))
 -- ---- the walk, note by note
 
 module _ (image : List ℕ) (from size read headers : ℕ) where
-  -- a note that stands in the image
-  pub walk-turn : {m : ℕ} {t : Turn} (n counted : ℕ) → m ≡ suc n → counted ≡ suc headers → read < size
-      → liesWithin (length image) from (read + noteHeaderSize) ≡ true → turnAt image (from + read) ≡ t
-      → walkFrom m image from size read headers ≡ afterTurn t counted (λ k. walkFrom n image from size (read + k) counted)
-  unfolding walkFrom pick
-  walk-turn n counted em ec lt stands et = rw (em, ec, lt-ltb read size lt, stands, et)
-
-  -- the same where each note before it took twelve bytes or more: a walk that began with this many notes left goes on after it
+  -- a note that stands in the image, where each note before it took twelve bytes or more: so it is one of those that are left
   pub walk-through : {whole : Walked} {t : Turn} → 12 * headers ≤ read → read < size → liesWithin (length image) from (read + noteHeaderSize) ≡ true
       → turnAt image (from + read) ≡ t → walkFrom (twelves size - headers) image from size read headers ≡ whole
       → afterTurn t (headers + 1) (λ k. walkFrom (twelves size - (headers + 1)) image from size (read + k) (headers + 1)) ≡ whole
+  unfolding walkFrom pick
   walk-through few lt stands et rest =
-      sym (walk-turn (twelves size - (headers + 1)) (headers + 1) (omega arith) (omega arith) lt stands et) ∙ rest
+      let left : twelves size - headers ≡ suc (twelves size - (headers + 1)) = omega arith in
+      let counted : headers + 1 ≡ suc headers = omega arith in
+      rw counted (sym (rw (left, lt-ltb read size lt, stands, et, counted)) ∙ rest)
 
   -- a note header that passes the image
   pub walk-short : {m : ℕ} (n : ℕ) → m ≡ suc n → read < size → liesWithin (length image) from (read + noteHeaderSize) ≡ false

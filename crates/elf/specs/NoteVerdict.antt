@@ -14,6 +14,7 @@ use Rattle.fields.specs.Ranges.{liesWithin}
 use Rattle.fields.specs.Tags.{tagAt}
 use Rattle.guest.specs.Sizes.{allowed}
 use Rattle.reading.specs.Notes.{noteHeaderOf}
+use Rattle.reading.specs.declared.NoteHeader.{NoteHeader}
 use Rattle.elf.specs.Notes.{noteHeaderSize, xen, isWanted, topSize, noteLength}
 use Rattle.elf.specs.declared.PvhBootCapability.the-variants as pvh
 use Rattle.elf.specs.declared.NoteAnswer.the-variants as answer
@@ -23,16 +24,21 @@ use Rattle.elf.specs.declared.ElfNote.{ElfNote}
 unfoldable pub isPvhNote : List ℕ → ℕ → Bool
 isPvhNote image p = pick (isWanted (noteHeaderOf image p)) (tagAt xen image (p + noteHeaderSize)) false
 
--- what is asked of the note at p: its header lies in the image, and its name, where that has to be looked at. Then of the PVH note that it
--- has an entry, which lies in the image; of any other that its sizes can be rounded up
+-- what is asked of the PVH note: its descriptor has the four bytes of an entry, which lie in the image
+abbrev pub entryTests : List ℕ → ℕ → List Test
+entryTests image p =
+    (leb 4 (noteHeaderOf image p .«n_descsz»), refusal.InvalidPvhNote) ∷ (liesWithin (length image) (p + 16) 4, refusal.ReadNoteHeader) ∷ []
+
+-- and of any other: both its sizes can be rounded up
+abbrev pub sizeTests : NoteHeader → List Test
+sizeTests note = (leb (note .«n_namesz») topSize, refusal.Overflow) ∷ (leb (note .«n_descsz») topSize, refusal.Overflow) ∷ []
+
+-- what is asked of the note at p, in order: its header lies in the image, then its name, where that has to be looked at, then these
 unfoldable pub noteTests : List ℕ → ℕ → List Test
 noteTests image p =
-    let note = noteHeaderOf image p in
     (liesWithin (length image) p noteHeaderSize, refusal.ReadNoteHeader)
-    ∷ (pick (isWanted note) (liesWithin (length image) (p + noteHeaderSize) 4) true, refusal.ReadNoteHeader)
-    ∷ pick (isPvhNote image p)
-    ((leb 4 (note .«n_descsz»), refusal.InvalidPvhNote) ∷ (liesWithin (length image) (p + 16) 4, refusal.ReadNoteHeader) ∷ [])
-    ((leb (note .«n_namesz») topSize, refusal.Overflow) ∷ (leb (note .«n_descsz») topSize, refusal.Overflow) ∷ [])
+    ∷ (pick (isWanted (noteHeaderOf image p)) (liesWithin (length image) (p + noteHeaderSize) 4) true, refusal.ReadNoteHeader)
+    ∷ pick (isPvhNote image p) (entryTests image p) (sizeTests (noteHeaderOf image p))
 
 -- of the notes of `size` bytes from a place on, the first j are passed over, and take `read` bytes: all that is asked of them holds, and none
 -- is the PVH note

@@ -10,7 +10,7 @@
 
 // The notes of a program header, walked until the PVH note is found.
 ghost use mathlib.Core.Path.{_≡_};
-ghost use Prim.Native.Nat.{_+_, _<_, _≤_};
+ghost use Prim.Native.Nat.{_+_, _≤_};
 ghost use lib.ListN.{length};
 ghost use Rattle.elf.specs.Notes.{isWanted, skipOf, turnAt, walkOf, entryOf, toldOf};
 use crate::ElfNote;
@@ -44,7 +44,7 @@ pub struct Walked {
     pub headers: u64,
 }
 
-// A note that is not wanted: both its sizes are tested, then it is passed over.
+// A note that is not wanted: both its sizes are tested, which then fit 32 bits, and it is passed over.
 fn skip(note: NoteHeader) -> Turn
     ensures { λ r. ⌜ r ≡ skipOf note ⌝ }
 {

@@ -1,7 +1,6 @@
 // Rows of little-endian numbers at a place of a slice. A row is a list of the widths of its fields; the numbers of all rows stand in one
 // list, their fields in turn.
 ghost use mathlib.Core.Path.{_≡_};
-ghost use Prim.Native.Nat.{ℕ};
 ghost use lib.ListN.{length};
 ghost use lib.Seq.{sets};
 ghost use Rattle.fields.specs.Rows.{fieldWidth, rowsBytes, rowsNumbers};

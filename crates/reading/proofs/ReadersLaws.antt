@@ -17,11 +17,11 @@ use Rattle.reading.specs.Places.{widthOf}
 use Rattle.reading.specs.Readers.{readerAt, Takes}
 
 -- a reader of this image stands at p
-pub record Stands (image : RefT (List ℕ)) (p : ℕ) (reader : Reader) : Type 0 where
+pub record StandsAt (image : RefT (List ℕ)) (p : ℕ) (reader : Reader) : Type 0 where
   pub over : reader .image ≡ image
   pub at-place : reader .at .0 ≡ min p top64
 
-pub new-stands : (image : RefT (List ℕ)) (at : ImagePlace) {reader : Reader} → at .0 ≤ top64 → reader ≡ readerAt image at → Stands image (at .0) reader
+pub new-stands : (image : RefT (List ℕ)) (at : ImagePlace) {reader : Reader} → at .0 ≤ top64 → reader ≡ readerAt image at → StandsAt image (at .0) reader
 new-stands image at small e =
     record {
       over = ap (λ (r : Reader). r .image) e;
@@ -36,7 +36,7 @@ le-clipped n s p short = split (decLe p top64)
     split (yes h) = ap (le n s) (let same : min p top64 ≡ p = omega arith in same)
     split (no h) = le-past n s (min p top64) (omega arith) ∙ sym (le-past n s p (omega arith))
 
-module _ (image : RefT (List ℕ)) (p width : ℕ) {reader : Reader} {t : Taken} (stands : Stands image p reader) (takes : Takes reader width t) where
+module _ (image : RefT (List ℕ)) (p width : ℕ) {reader : Reader} {t : Taken} (stands : StandsAt image p reader) (takes : Takes reader width t) where
   -- the number that is taken
   pub reads-there : length (now image) ≤ top64 → t .value ≡ le (widthOf width) (now image) p
   reads-there short =
@@ -46,7 +46,7 @@ module _ (image : RefT (List ℕ)) (p width : ℕ) {reader : Reader} {t : Taken}
       ∙ le-clipped (widthOf width) (now image) p short
 
   -- and where the reader stands then
-  pub stands-past : Stands image (p + widthOf width) (t .rest)
+  pub stands-past : StandsAt image (p + widthOf width) (t .rest)
   stands-past =
       record {
         over = ap (λ (r : Reader). r .image) (takes .past) ∙ stands .over;
