@@ -227,7 +227,8 @@ mod tests {
     }
 
     #[test]
-    fn help_fits_on_a_screen() {
+    fn help_fits_on_a_screen_and_says_what_is_compared() {
+        assert!(HELP.contains("e_entry (ELF) or code32_start"));
         assert!(HELP.lines().count() <= 24);
         assert!(HELP.lines().all(|line| line.chars().count() < 80));
     }
