@@ -226,6 +226,13 @@ fn a_refused_elf_load_says_what_it_was_about() {
         &elf()[..122],
         "refused 10 ReadKernelImage\nsegment 0: load, 3 bytes at 0x78: they end at 0x7b, and the image at 0x7a\n",
     );
+    // more guest memory than is taken is no advice
+    refused(
+        &["load"],
+        &edited(88, &(1u64 << 50).to_le_bytes()),
+        "refused 10 ReadKernelImage\n\
+         segment 0: load, 3 bytes at 0x78 to guest 0x4000000000000: they end at 0x4000000000003, and guest memory at 0x40000000\n",
+    );
     refused(
         &["load", "--highmem", "17"],
         &elf(),
@@ -387,7 +394,8 @@ fn a_format_that_is_forced_gets_no_false_hint() {
         &packed,
         "refused 1 InvalidElfMagicNumber\n\
          the image begins with 1f 8b 00 00, and an ELF image with 7f 45 4c 46: \
-         it looks like a gzip file, which is to be unpacked first\n",
+         it looks like a gzip file\n\
+         try: to unpack it first\n",
     );
 }
 

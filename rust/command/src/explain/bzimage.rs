@@ -2,8 +2,8 @@
 
 use rekusoyen::Refusal;
 
-use super::{looks_like, Explained};
-use crate::arguments::{Format, Load};
+use super::{more_guest, Explained, Looks};
+use crate::arguments::Load;
 use crate::report::{number, Setup};
 
 const MAGIC: usize = 0x202;
@@ -30,12 +30,13 @@ pub fn explain(refusal: Refusal, image: &[u8], asked: &Load) -> Option<Explained
             let size = (image.len() as u64).checked_sub(setup.size)?;
             let start = asked.offset.map_or(setup.code32_start, |offset| offset.0);
             let end = u128::from(start) + u128::from(size);
+            let advice = more_guest(end).map_or(String::new(), |guest| guest + ", or ");
             Some(Explained::advise(
                 format!(
                     "the kernel's {size} bytes go to guest {start:#x} to {end:#x}, and guest memory ends at {:#x}",
                     asked.guest
                 ),
-                format!("--guest {end:#x} or more, or another --offset"),
+                advice + "another --offset",
             ))
         }
         _ => None,
@@ -54,14 +55,7 @@ fn invalid(image: &[u8], asked: &Load) -> Option<Explained> {
         } else {
             format!("at {MAGIC:#x} there is no 'HdrS' of a bzImage")
         };
-        return Some(match (looks_like(image), asked.format) {
-            (Some("an ELF image"), Format::BzImage) => Explained::advise(
-                about + ": it looks like an ELF image",
-                "without --format bzimage".to_string(),
-            ),
-            (Some(other), _) => Explained::new(format!("{about}: it looks like {other}")),
-            (None, _) => Explained::new(about),
-        });
+        return Some(Looks::of(image).explain(about, asked.format));
     }
     let about = if version < 0x200 {
         format!(

@@ -3,7 +3,7 @@
 use rekusoyen::loader::elf::{segments, Segment};
 use rekusoyen::{GuestAddress, Refusal};
 
-use super::{looks_like, Explained};
+use super::{more_guest, Explained, Looks};
 use crate::arguments::{Format, Load};
 use crate::notes::{walk, Stop};
 use crate::report::{number, segment_details};
@@ -50,17 +50,11 @@ fn magic(image: &[u8], asked: &Load) -> Explained {
         "the image begins with {}, and an ELF image with 7f 45 4c 46",
         first.join(" ")
     );
-    match (looks_like(image), asked.format) {
-        (Some("a bzImage"), Format::Elf) => Explained::advise(
-            about + ": it looks like a bzImage",
-            "without --format elf".to_string(),
-        ),
-        (Some(other), _) => Explained::new(format!("{about}: it looks like {other}")),
-        (None, Format::Auto) => {
-            Explained::new(about + ", and there is no 'HdrS' of a bzImage at 0x202")
-        }
-        (None, _) => Explained::new(about),
+    let looks = Looks::of(image);
+    if looks == Looks::Unknown && asked.format == Format::Auto {
+        return Explained::new(about + ", and there is no 'HdrS' of a bzImage at 0x202");
     }
+    looks.explain(about, asked.format)
 }
 
 fn header(image: &[u8]) -> Explained {
@@ -119,7 +113,7 @@ fn by_segment(
     };
     let about = format!("segment {i}: {}", segment_details(segment, image, asked));
     let advice = match problem {
-        Problem::Guest(_) => Some(format!("--guest {:#x} or more", needed(image, asked))),
+        Problem::Guest(_) => more_guest(needed(image, asked)),
         Problem::Address if asked.offset.is_some() => Some("a lower --offset, or none".to_string()),
         _ => None,
     };

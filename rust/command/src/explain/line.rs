@@ -3,7 +3,7 @@
 use rekusoyen::cmdline::Cmdline;
 use rekusoyen::{GuestAddress, Refusal};
 
-use super::Explained;
+use super::{more_guest, Explained};
 use crate::arguments::Load;
 use crate::load::CAPACITY;
 
@@ -27,12 +27,13 @@ pub fn explain(refusal: Refusal, at: GuestAddress, asked: &Load) -> Option<Expla
             let line = Cmdline::try_from(text, CAPACITY).ok()?.as_cstring().ok()?;
             let size = line.as_bytes_with_nul().len();
             let end = u128::from(at.0) + size as u128;
+            let advice = more_guest(end).map_or(String::new(), |guest| guest + ", or ");
             Some(Explained::advise(
                 format!(
                     "the command line's {size} bytes go to guest {:#x} to {end:#x}, and guest memory ends at {:#x}",
                     at.0, asked.guest
                 ),
-                format!("--guest {end:#x} or more, or a lower --at"),
+                advice + "a lower --at",
             ))
         }
         _ => None,

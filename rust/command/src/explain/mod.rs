@@ -60,20 +60,54 @@ fn too_long(image: &[u8], asked: &Load) -> Option<Explained> {
     (image.len() as u64 > LONGEST).then(|| Explained::new(about))
 }
 
-/// What an image that is not of the asked format looks like, if that can be told by its first bytes.
-fn looks_like(image: &[u8]) -> Option<&'static str> {
-    if image.starts_with(b"\x7fELF") {
-        Some("an ELF image")
-    } else if image.get(0x202..0x206) == Some(b"HdrS") {
-        Some("a bzImage")
-    } else if image.starts_with(b"\x1f\x8b") {
-        Some("a gzip file, which is to be unpacked first")
-    } else if image.starts_with(b"\xfd7zXZ\0") {
-        Some("an xz file, which is to be unpacked first")
-    } else if image.starts_with(b"\x28\xb5\x2f\xfd") {
-        Some("a zstd file, which is to be unpacked first")
-    } else {
-        None
+/// As much guest memory as something needs, if so much can be had.
+fn more_guest(end: u128) -> Option<String> {
+    (end <= LONGEST.into()).then(|| format!("--guest {end:#x} or more"))
+}
+
+/// What an image looks like by its first bytes.
+#[derive(Clone, Copy, PartialEq)]
+enum Looks {
+    Elf,
+    BzImage,
+    Packed(&'static str),
+    Unknown,
+}
+
+impl Looks {
+    fn of(image: &[u8]) -> Looks {
+        let packed: [(&[u8], _); 3] = [
+            (b"\x1f\x8b", "a gzip file"),
+            (b"\xfd7zXZ\0", "an xz file"),
+            (b"\x28\xb5\x2f\xfd", "a zstd file"),
+        ];
+        if image.starts_with(b"\x7fELF") {
+            Looks::Elf
+        } else if image.get(0x202..0x206) == Some(b"HdrS") {
+            Looks::BzImage
+        } else {
+            let found = packed.iter().find(|row| image.starts_with(row.0));
+            found.map_or(Looks::Unknown, |row| Looks::Packed(row.1))
+        }
+    }
+
+    /// An image that is not of the format that was asked for.
+    fn explain(self, about: String, asked: Format) -> Explained {
+        match (self, asked) {
+            (Looks::BzImage, Format::Elf) => Explained::advise(
+                about + ": it looks like a bzImage",
+                "without --format elf".to_string(),
+            ),
+            (Looks::Elf, Format::BzImage) => Explained::advise(
+                about + ": it looks like an ELF image",
+                "without --format bzimage".to_string(),
+            ),
+            (Looks::Packed(what), _) => Explained::advise(
+                format!("{about}: it looks like {what}"),
+                "to unpack it first".to_string(),
+            ),
+            _ => Explained::new(about),
+        }
     }
 }
 
