@@ -18,6 +18,24 @@ pub const OFFSET_GIVEN: u32 = 1;
 /// The flag of a load to which the start of high memory is given.
 pub const HIGHMEM_GIVEN: u32 = 2;
 
+/// PVH, as a load or a note walk tells it: there is no note header, or an offset was given.
+pub const PVH_IGNORED: u64 = 0;
+
+/// The notes have no PVH entry.
+pub const PVH_NOT_PRESENT: u64 = 1;
+
+/// The notes have one, and its address is told.
+pub const PVH_PRESENT: u64 = 2;
+
+/// How many places the list of an ELF load's values has.
+pub const ELF_LOAD_OUT: usize = 4;
+
+/// How many places the list of a note walk's values has.
+pub const ELF_NOTE_OUT: usize = 3;
+
+/// How many places the list of a bzImage load's values has.
+pub const BZIMAGE_LOAD_OUT: usize = 2;
+
 extern "C" {
     /// Loads an ELF image. `out` has 4 places: the load address, the kernel's end, PVH (0 ignored, 1 not present, 2 present), its address.
     ///

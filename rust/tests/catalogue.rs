@@ -86,7 +86,7 @@ fn defined(name: &str) -> &'static str {
 }
 
 #[test]
-fn sizes_and_flags_are_those_of_the_header() {
+fn sizes_flags_and_codes_are_those_of_the_header() {
     let numbers = [
         ("REKUSOYEN_LINE_LIMIT", entry::LIMIT.to_string()),
         (
@@ -100,6 +100,18 @@ fn sizes_and_flags_are_those_of_the_header() {
         (
             "REKUSOYEN_HIGHMEM_GIVEN",
             format!("{}u", entry::HIGHMEM_GIVEN),
+        ),
+        ("REKUSOYEN_PVH_IGNORED", format!("{}u", entry::PVH_IGNORED)),
+        (
+            "REKUSOYEN_PVH_NOT_PRESENT",
+            format!("{}u", entry::PVH_NOT_PRESENT),
+        ),
+        ("REKUSOYEN_PVH_PRESENT", format!("{}u", entry::PVH_PRESENT)),
+        ("REKUSOYEN_ELF_LOAD_OUT", entry::ELF_LOAD_OUT.to_string()),
+        ("REKUSOYEN_ELF_NOTE_OUT", entry::ELF_NOTE_OUT.to_string()),
+        (
+            "REKUSOYEN_BZIMAGE_LOAD_OUT",
+            entry::BZIMAGE_LOAD_OUT.to_string(),
         ),
     ];
     for (name, number) in numbers {
