@@ -1,7 +1,7 @@
 /*
  * The proved kernel loader for C and C++: ELF images with their PVH note, bzImages, and the kernel command line.
- * A program includes this header and links the static library of the crate `capi`: by pkg-config from an archive that `tools/dist`
- * makes, `cc program.c $(pkg-config --cflags --libs rekusoyen)`, or the file that `rt staticlib capi` writes.
+ * A program includes this header and links the static library of the crate `capi`, which `rt staticlib capi` makes; from an
+ * archive that `tools/dist` makes by pkg-config, `cc program.c $(pkg-config --cflags --libs rekusoyen)`.
  *
  * Answers. Every function answers REKUSOYEN_ACCEPTED or one refusal. Its comment lists its refusals in the order in which they
  * are asked, without the prefix REKUSOYEN_: the first whose condition holds is the answer. What a comment does not name as
