@@ -1,6 +1,7 @@
 /*
  * Loads an ELF image from standard input into guest memory, and a command line with it.
  *
+ * build: cc example.c $(pkg-config --cflags --libs rekusoyen) -o example
  * usage: example < IMAGE
  */
 #include "rekusoyen.h"
@@ -34,7 +35,8 @@ int main(void)
     if (answer == REKUSOYEN_ACCEPTED)
         answer = rekusoyen_line_load(guest, SIZE, LINE_ADDRESS, line, sizeof line);
     if (answer != REKUSOYEN_ACCEPTED) {
-        fprintf(stderr, "example: refused, %" PRIu32 "\n", answer);
+        fprintf(stderr, "example: refused, %" PRIu32 " %s: %s\n",
+                answer, rekusoyen_answer_name(answer), rekusoyen_answer_sentence(answer));
         return 1;
     }
     printf("load %" PRIu64 ", end %" PRIu64 ", pvh %" PRIu64 " at %" PRIu64 ", line %s\n",

@@ -1,6 +1,7 @@
 /*
  * The proved kernel loader for C and C++: ELF images with their PVH note, bzImages, and the kernel command line.
- * A program includes this header and links the static library of the crate `capi`, which `rt staticlib capi` makes.
+ * A program includes this header and links the static library of the crate `capi`, which `rt staticlib capi` makes; from an
+ * archive that `tools/dist` makes by pkg-config, `cc program.c $(pkg-config --cflags --libs rekusoyen)`.
  *
  * Answers. Every function answers REKUSOYEN_ACCEPTED or one refusal. Its comment lists its refusals in the order in which they
  * are asked, without the prefix REKUSOYEN_: the first whose condition holds is the answer. What a comment does not name as
@@ -82,6 +83,65 @@ enum rekusoyen_answer {
     REKUSOYEN_BAD_LIST = 61,                       /* ends that fall, or of which the last is not the length of the values */
     REKUSOYEN_NO_ROOM = 62                         /* a buffer that has not its one size, or an output too short for the line */
 };
+
+/* Every answer with what it means: ROW(NAME, SENTENCE), the name without its prefix. For tables of a program's own. */
+#define REKUSOYEN_ANSWERS(ROW) \
+    ROW(ACCEPTED, "The call was accepted.") \
+    ROW(INVALID_ELF_MAGIC_NUMBER, "The image does not begin with the four bytes of an ELF file.") \
+    ROW(BIG_ENDIAN_ELF_ON_LITTLE, "The image is not little-endian.") \
+    ROW(INVALID_PROGRAM_HEADER_SIZE, "A program header has another size than 56.") \
+    ROW(INVALID_PROGRAM_HEADER_OFFSET, "The program headers begin inside the ELF header.") \
+    ROW(INVALID_ENTRY_ADDRESS, "The entry address is below the start of high memory.") \
+    ROW(OVERFLOW, "A sum does not fit into 64 bits, or the size of a note's name or descriptor, rounded up, into 32.") \
+    ROW(READ_ELF_HEADER, "The image ends inside the ELF header.") \
+    ROW(READ_PROGRAM_HEADER, "The image ends inside the program headers.") \
+    ROW(INVALID_PROGRAM_HEADER_ADDRESS, "The address of a segment does not fit into 64 bits.") \
+    ROW(READ_KERNEL_IMAGE, "A segment's bytes are not all in the image, or have no room in guest memory.") \
+    ROW(READ_NOTE_HEADER, "The image ends inside a note.") \
+    ROW(INVALID_PVH_NOTE, "The descriptor of the PVH note is shorter than an address.") \
+    ROW(MEMORY_OVERFLOW, "The end of a segment does not fit into 64 bits.") \
+    ROW(INVALID_BZ_IMAGE, "The image has no bzImage's setup header.") \
+    ROW(UNDERFLOW, "The image is shorter than its setup sectors.") \
+    ROW(INVALID_KERNEL_START_ADDRESS, "The kernel's own load address is below the start of high memory.") \
+    ROW(READ_BZ_IMAGE_COMPRESSED_KERNEL, "The kernel's bytes have no room in guest memory.") \
+    ROW(INVALID_COMMAND_LINE, "The line cannot be written: it has init arguments alone, or a zero byte.") \
+    ROW(COMMAND_LINE_OVERFLOW, "The line has no room in guest memory at its address.") \
+    ROW(INVALID_CAPACITY, "A capacity is 0, above the limit, or less than a text needs.") \
+    ROW(INVALID_ASCII, "A text has a byte that is not printable ASCII.") \
+    ROW(HAS_SPACE, "A key has a space.") \
+    ROW(HAS_EQUALS, "A key has an equals sign.") \
+    ROW(MISSING_VAL, "A key came without a value.") \
+    ROW(MMIO_SIZE, "A device has size 0.") \
+    ROW(TOO_LARGE, "The text has no room in the line.") \
+    ROW(NO_QUOTE_SPACE, "A value with a space is not in quotes.") \
+    ROW(INVALID_QUOTE, "A value has a quote in its middle.") \
+    ROW(NO_BOOT_ARGS_INSERTED, "The line has init arguments alone.") \
+    ROW(NULL_TERMINATOR, "The line has a zero byte.") \
+    ROW(SLICE_TOO_LONG, "The image or guest memory has more than 2^40 bytes.") \
+    ROW(BAD_LIST, "A list of ends is not rising, or does not end where the values do.") \
+    ROW(NO_ROOM, "A lent output has no room, or another size than it must have.")
+
+/* The name of an answer without its prefix, as "READ_KERNEL_IMAGE"; NULL of a number that no function answers. */
+static inline const char *rekusoyen_answer_name(uint32_t answer)
+{
+    switch (answer) {
+#define REKUSOYEN_ROW(name, sentence) case REKUSOYEN_##name: return #name;
+    REKUSOYEN_ANSWERS(REKUSOYEN_ROW)
+#undef REKUSOYEN_ROW
+    default: return NULL;
+    }
+}
+
+/* What an answer means, in a sentence; NULL of a number that no function answers. */
+static inline const char *rekusoyen_answer_sentence(uint32_t answer)
+{
+    switch (answer) {
+#define REKUSOYEN_ROW(name, sentence) case REKUSOYEN_##name: return sentence;
+    REKUSOYEN_ANSWERS(REKUSOYEN_ROW)
+#undef REKUSOYEN_ROW
+    default: return NULL;
+    }
+}
 
 /*
  * The stack that a call uses at the most, beside what memcpy and memset themselves use: a load of an image or a note walk, and

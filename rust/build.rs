@@ -17,10 +17,11 @@ fn main() {
     println!("cargo:rerun-if-changed=build.rs");
     println!("cargo:rerun-if-env-changed=REKUSOYEN_LIBRARY");
     if env::var_os("CARGO_FEATURE_PE").is_some() {
-        fail(
-            "the feature `pe` is not carried over from linux-loader: there is no loader for PE images (its module `loader::pe`), only \
-             those of the features `elf` and `bzimage`. Take `pe` out of the features",
+        eprintln!(
+            "rekusoyen: the feature `pe` is not carried over from linux-loader: there is no loader for PE images (its module `loader::pe`), \
+             only those of the features `elf` and `bzimage`. Take `pe` out of this crate's features."
         );
+        exit(1);
     }
     let target = Target::read();
     let folder = named().unwrap_or_else(|| {

@@ -12,6 +12,7 @@ int main(int count, char **words)
         const struct image image = small_elf();
         return fwrite(image.bytes, 1, image.size, stdout) != image.size;
     }
+    test_answers();
     test_elf();
     test_notes();
     test_bzimage();

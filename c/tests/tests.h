@@ -2,6 +2,7 @@
 #ifndef TESTS_H
 #define TESTS_H
 
+void test_answers(void);
 void test_elf(void);
 void test_notes(void);
 void test_bzimage(void);

@@ -18,7 +18,31 @@ pub const OFFSET_GIVEN: u32 = 1;
 /// The flag of a load to which the start of high memory is given.
 pub const HIGHMEM_GIVEN: u32 = 2;
 
+/// PVH, as a load or a note walk tells it: there is no note header, or an offset was given.
+pub const PVH_IGNORED: u64 = 0;
+
+/// The notes have no PVH entry.
+pub const PVH_NOT_PRESENT: u64 = 1;
+
+/// The notes have one, and its address is told.
+pub const PVH_PRESENT: u64 = 2;
+
+/// How many places the list of an ELF load's values has.
+pub const ELF_LOAD_OUT: usize = 4;
+
+/// How many places the list of a note walk's values has.
+pub const ELF_NOTE_OUT: usize = 3;
+
+/// How many places the list of a bzImage load's values has.
+pub const BZIMAGE_LOAD_OUT: usize = 2;
+
 extern "C" {
+    /// Loads an ELF image. `out` has 4 places: the load address, the kernel's end, PVH (0 ignored, 1 not present, 2 present), its address.
+    ///
+    /// # Safety
+    ///
+    /// As of every function here: each pointer is valid for as many elements as the length behind it says, to read, and where it is `mut`
+    /// to write; what is `mut` overlaps no other argument; and nobody else has it during the call.
     pub fn rekusoyen_elf_load(
         guest: *mut u8,
         guest_len: usize,
@@ -31,6 +55,11 @@ extern "C" {
         out_len: usize,
     ) -> u32;
 
+    /// Walks the notes of an ELF image. `out` has 3 places: PVH (1 not present, 2 present), its address, and how many headers were read.
+    ///
+    /// # Safety
+    ///
+    /// As of [`rekusoyen_elf_load`].
     pub fn rekusoyen_elf_note(
         image: *const u8,
         image_len: usize,
@@ -40,6 +69,11 @@ extern "C" {
         out_len: usize,
     ) -> u32;
 
+    /// Loads a bzImage. `out` has 2 places, the load address and the kernel's end; `header` has [`SETUP_HEADER_SIZE`] bytes.
+    ///
+    /// # Safety
+    ///
+    /// As of [`rekusoyen_elf_load`].
     pub fn rekusoyen_bzimage_load(
         guest: *mut u8,
         guest_len: usize,
@@ -54,8 +88,18 @@ extern "C" {
         header_len: usize,
     ) -> u32;
 
+    /// Makes an empty line in [`LINE_SIZE`] bytes.
+    ///
+    /// # Safety
+    ///
+    /// As of [`rekusoyen_elf_load`].
     pub fn rekusoyen_line_new(line: *mut u8, line_len: usize, capacity: u64) -> u32;
 
+    /// Makes a line from its whole text.
+    ///
+    /// # Safety
+    ///
+    /// As of [`rekusoyen_elf_load`].
     pub fn rekusoyen_line_try_from(
         line: *mut u8,
         line_len: usize,
@@ -64,6 +108,11 @@ extern "C" {
         capacity: u64,
     ) -> u32;
 
+    /// Puts `key=value` after the boot text.
+    ///
+    /// # Safety
+    ///
+    /// As of [`rekusoyen_elf_load`].
     pub fn rekusoyen_line_insert(
         line: *mut u8,
         line_len: usize,
@@ -73,6 +122,11 @@ extern "C" {
         value_len: usize,
     ) -> u32;
 
+    /// Puts `key=value,value..` after the boot text. `ends` says where in `values` each value ends.
+    ///
+    /// # Safety
+    ///
+    /// As of [`rekusoyen_elf_load`].
     pub fn rekusoyen_line_insert_multiple(
         line: *mut u8,
         line_len: usize,
@@ -84,6 +138,11 @@ extern "C" {
         ends_len: usize,
     ) -> u32;
 
+    /// Puts a text after the boot text, without the blanks at its ends.
+    ///
+    /// # Safety
+    ///
+    /// As of [`rekusoyen_elf_load`].
     pub fn rekusoyen_line_insert_str(
         line: *mut u8,
         line_len: usize,
@@ -91,6 +150,11 @@ extern "C" {
         slug_len: usize,
     ) -> u32;
 
+    /// Puts a text after the init text, without the blanks at its ends.
+    ///
+    /// # Safety
+    ///
+    /// As of [`rekusoyen_elf_load`].
     pub fn rekusoyen_line_insert_init_args(
         line: *mut u8,
         line_len: usize,
@@ -98,6 +162,11 @@ extern "C" {
         slug_len: usize,
     ) -> u32;
 
+    /// Puts the text of a virtio MMIO device after the boot text; `id` is looked at where `has_id` is not 0.
+    ///
+    /// # Safety
+    ///
+    /// As of [`rekusoyen_elf_load`].
     pub fn rekusoyen_line_add_virtio_mmio_device(
         line: *mut u8,
         line_len: usize,
@@ -108,6 +177,11 @@ extern "C" {
         id: u32,
     ) -> u32;
 
+    /// Writes the line and its closing zero; `count` has one place, for how many bytes that took.
+    ///
+    /// # Safety
+    ///
+    /// As of [`rekusoyen_elf_load`].
     pub fn rekusoyen_line_as_cstring(
         line: *const u8,
         line_len: usize,
@@ -117,6 +191,11 @@ extern "C" {
         count_len: usize,
     ) -> u32;
 
+    /// Compares two lines by what would be written of them; `out` has one place, for 1 where they are equal and else 0.
+    ///
+    /// # Safety
+    ///
+    /// As of [`rekusoyen_elf_load`].
     pub fn rekusoyen_line_equal(
         a: *const u8,
         a_len: usize,
@@ -126,6 +205,11 @@ extern "C" {
         out_len: usize,
     ) -> u32;
 
+    /// Writes the line and its closing zero into guest memory.
+    ///
+    /// # Safety
+    ///
+    /// As of [`rekusoyen_elf_load`].
     pub fn rekusoyen_line_load(
         guest: *mut u8,
         guest_len: usize,

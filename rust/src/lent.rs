@@ -76,8 +76,12 @@ fn number(address: Option<GuestAddress>) -> u64 {
 }
 
 /// Loads an ELF image: the load address, the kernel's end, PVH and its address.
-pub(crate) fn elf_load(guest: Guest, image: &[u8], options: Options) -> Result<[u64; 4], Refusal> {
-    let mut out = [0; 4];
+pub(crate) fn elf_load(
+    guest: Guest,
+    image: &[u8],
+    options: Options,
+) -> Result<[u64; entry::ELF_LOAD_OUT], Refusal> {
+    let mut out = [0; entry::ELF_LOAD_OUT];
     // SAFETY: the guest's bytes can be read and written and nobody else has them, by `Guest`; image and output are slices of
     // Rust's, the output borrowed by this call alone. The function keeps none of the pointers.
     let number = unsafe {
@@ -97,8 +101,12 @@ pub(crate) fn elf_load(guest: Guest, image: &[u8], options: Options) -> Result<[
 }
 
 /// Walks the notes of `p_filesz` bytes at `p_offset`: PVH, its address, and how many note headers were read.
-pub(crate) fn elf_note(image: &[u8], p_offset: u64, p_filesz: u64) -> Result<[u64; 3], Refusal> {
-    let mut out = [0; 3];
+pub(crate) fn elf_note(
+    image: &[u8],
+    p_offset: u64,
+    p_filesz: u64,
+) -> Result<[u64; entry::ELF_NOTE_OUT], Refusal> {
+    let mut out = [0; entry::ELF_NOTE_OUT];
     // SAFETY: image and output are slices of Rust's, the output borrowed by this call alone. The function keeps no pointer.
     let number = unsafe {
         entry::rekusoyen_elf_note(
@@ -126,7 +134,7 @@ pub(crate) fn bzimage_load(
     image: &[u8],
     options: Options,
 ) -> Result<BzImageLoaded, Refusal> {
-    let mut out = [0; 2];
+    let mut out = [0; entry::BZIMAGE_LOAD_OUT];
     let mut setup_header = [0; entry::SETUP_HEADER_SIZE];
     // SAFETY: the guest's bytes can be read and written and nobody else has them, by `Guest`; the others are slices of Rust's,
     // both outputs borrowed by this call alone. The function keeps none of the pointers.

@@ -38,6 +38,8 @@
 //! `docs/DIFFERENCES.md` of the repository has every difference. Most to be noticed: a command line's capacity is at most 4,096,
 //! and an image and guest memory have at most 2^40 bytes each.
 
+#![warn(missing_docs)]
+
 #[cfg(not(all(target_endian = "little", target_pointer_width = "64")))]
 compile_error!("the proved library is compiled for little-endian processors of 64 bits");
 

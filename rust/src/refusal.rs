@@ -2,17 +2,30 @@
 
 /// Declares the refusals once, each with its number.
 macro_rules! refusals {
-    ($($(#[$meaning:meta])* $name:ident = $number:literal,)*) => {
+    ($(#[doc = $meaning:literal] $name:ident = $number:literal,)*) => {
         /// A refusal of the proved library. Its number is what the C entry points answer.
         #[derive(Clone, Copy, Debug, PartialEq, Eq, Hash)]
         #[repr(u32)]
         pub enum Refusal {
-            $($(#[$meaning])* $name = $number,)*
+            $(#[doc = $meaning] $name = $number,)*
         }
 
         impl Refusal {
             /// All of them, by number.
             pub const ALL: &'static [Refusal] = &[$(Refusal::$name,)*];
+
+            /// What it means, in a sentence.
+            ///
+            /// ```
+            /// use rekusoyen::Refusal;
+            ///
+            /// assert_eq!(Refusal::ReadElfHeader.sentence(), "The image ends inside the ELF header.");
+            /// ```
+            pub fn sentence(self) -> &'static str {
+                match self {
+                    $(Refusal::$name => $meaning.trim_start(),)*
+                }
+            }
         }
     };
 }

@@ -55,6 +55,27 @@ fn in_capitals(name: &str) -> String {
     capitals
 }
 
+/// The header's table has each answer's name and sentence: those of this crate, and one for an accepted call.
+#[test]
+fn sentences_of_the_header_are_those_of_this_crate() {
+    let rows = HEADER.lines().filter_map(|line| {
+        let row = line.trim().strip_prefix("ROW(")?;
+        let (name, rest) = row.split_once(", \"")?;
+        Some((name, rest.split_once("\")")?.0))
+    });
+    let rows: Vec<_> = rows.collect();
+    assert_eq!(rows[0], ("ACCEPTED", "The call was accepted."));
+    let here = Refusal::ALL.iter();
+    let here: Vec<_> = here
+        .map(|refusal| (in_capitals(&format!("{refusal:?}")), refusal.sentence()))
+        .collect();
+    let told: Vec<_> = rows[1..]
+        .iter()
+        .map(|(name, sentence)| (name.to_string(), *sentence))
+        .collect();
+    assert_eq!(told, here);
+}
+
 /// What the header defines a name as.
 fn defined(name: &str) -> &'static str {
     let line = HEADER
@@ -65,7 +86,7 @@ fn defined(name: &str) -> &'static str {
 }
 
 #[test]
-fn sizes_and_flags_are_those_of_the_header() {
+fn sizes_flags_and_codes_are_those_of_the_header() {
     let numbers = [
         ("REKUSOYEN_LINE_LIMIT", entry::LIMIT.to_string()),
         (
@@ -79,6 +100,18 @@ fn sizes_and_flags_are_those_of_the_header() {
         (
             "REKUSOYEN_HIGHMEM_GIVEN",
             format!("{}u", entry::HIGHMEM_GIVEN),
+        ),
+        ("REKUSOYEN_PVH_IGNORED", format!("{}u", entry::PVH_IGNORED)),
+        (
+            "REKUSOYEN_PVH_NOT_PRESENT",
+            format!("{}u", entry::PVH_NOT_PRESENT),
+        ),
+        ("REKUSOYEN_PVH_PRESENT", format!("{}u", entry::PVH_PRESENT)),
+        ("REKUSOYEN_ELF_LOAD_OUT", entry::ELF_LOAD_OUT.to_string()),
+        ("REKUSOYEN_ELF_NOTE_OUT", entry::ELF_NOTE_OUT.to_string()),
+        (
+            "REKUSOYEN_BZIMAGE_LOAD_OUT",
+            entry::BZIMAGE_LOAD_OUT.to_string(),
         ),
     ];
     for (name, number) in numbers {

@@ -9,9 +9,12 @@ use crate::rng::Rng;
 use std::io::Result;
 use std::path::Path;
 
-/// How much guest memory there is: enough for a kernel at its own address, or, for a small image, what the probe takes.
+/// How much guest memory there is: enough for a kernel at its own address, or what the probe takes.
 const GUEST: usize = 128 << 20;
 const SMALL_GUEST: usize = LARGEST;
+
+/// Where a small image goes in small guest memory: its own address may be 1 MiB, where that ends.
+const LOW: u64 = 0x1000;
 
 /// Loads each file as what it is; answers whether all agreed.
 pub fn images(files: &[String], backends: &[&Maker]) -> Result<bool> {
@@ -19,41 +22,44 @@ pub fn images(files: &[String], backends: &[&Maker]) -> Result<bool> {
     let mut all_agree = true;
     for file in files {
         let image = std::fs::read(file)?;
-        let question = question(image);
-        let wanted = over_second::answer(&question);
         let name = Path::new(file).file_name().unwrap_or_default();
-        let name = name.to_string_lossy();
-        println!("{name}\n  second: {}", wanted.line(question.guest()));
-        for backend in &mut asked {
-            let reply = backend.ask(&question);
-            let agrees = backend.agrees(&question, &wanted, &reply);
-            all_agree &= agrees;
-            let words = match reply {
-                Reply::Outside => "not asked".into(),
-                _ if agrees => "the same".into(),
-                _ => format!("DIFFERENT: {}", line_of(&question, &reply)),
-            };
-            println!("  {}: {words}", backend.name());
+        println!("{}", name.to_string_lossy());
+        for question in questions(&image) {
+            let wanted = over_second::answer(&question);
+            println!("  second: {}", wanted.line(question.guest()));
+            for backend in &mut asked {
+                let reply = backend.ask(&question);
+                let agrees = backend.agrees(&question, &wanted, &reply);
+                all_agree &= agrees;
+                let words = match reply {
+                    Reply::Outside => "not asked".into(),
+                    _ if agrees => "the same".into(),
+                    _ => format!("DIFFERENT: {}", line_of(&question, &reply)),
+                };
+                println!("  {}: {words}", backend.name());
+            }
         }
     }
     Ok(all_agree)
 }
 
-/// The load of an image: as an ELF one where it has that magic, and as a bzImage elsewhere.
-fn question(image: Vec<u8>) -> Question {
-    let is_elf = image.starts_with(b"\x7fELF");
-    let small = !is_elf && image.len() <= SMALL_GUEST / 2;
-    let mut load = Load {
-        options: Options::default(),
-        image,
-        guest: Rng::new(1).bytes(if small { SMALL_GUEST } else { GUEST }),
+/// The loads of an image, as an ELF one where it has that magic and as a bzImage elsewhere: at its own address, and where it is small
+/// once more in guest memory that the probe takes.
+fn questions(image: &[u8]) -> Vec<Question> {
+    let load = |offset, guest| Load {
+        options: Options {
+            offset,
+            highmem: None,
+        },
+        image: image.to_vec(),
+        guest: Rng::new(1).bytes(guest),
     };
-    if is_elf {
-        return Question::Elf(load);
+    if image.starts_with(b"\x7fELF") {
+        return vec![Question::Elf(load(None, GUEST))];
     }
-    if small {
-        // their own address is 1 MiB, where this guest ends
-        load.options.offset = Some(0x1000);
+    let mut questions = vec![Question::Bzimage(load(None, GUEST))];
+    if image.len() <= SMALL_GUEST / 2 {
+        questions.push(Question::Bzimage(load(Some(LOW), SMALL_GUEST)));
     }
-    Question::Bzimage(load)
+    questions
 }

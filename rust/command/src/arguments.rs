@@ -13,20 +13,20 @@ usage: rekusoyen                         load a small built-in image
 
 Loads a kernel into guest memory, as a monitor would before it starts it, and
 prints where the kernel is entered (load), where it ends (end) and its PVH
-entry (pvh: an address, none, or ignored).
+entry (pvh: an address, none, or ignored). Those addresses are decimal.
 
   --guest SIZE       guest memory, from address 0; 1G if not given
   --offset ADDRESS   ELF: move every segment by this; bzImage: load here
-  --highmem ADDRESS  where high memory starts; a kernel below it is refused
+  --highmem ADDRESS  refuse a kernel whose e_entry (ELF) or code32_start
+                     (bzImage), before any --offset, lies below this address
   --cmdline TEXT     put this command line into guest memory, too
   --at ADDRESS       and put it here; at the kernel's end if not given
   --format FORMAT    elf, bzimage or auto; auto if not given
-  --verbose          show each segment and note
+  --verbose          show each segment and note, of a refused load too
   --help, --version
 
 A size or address is decimal, with K, M, G or T behind it if wanted, or 0x and
 hexadecimal digits: 64M, 0x100000.
-
 Exit status: 0 for an accepted load, 1 for a refused one, 2 for wrong usage.
 ";
 
@@ -48,7 +48,7 @@ pub enum Format {
 }
 
 /// A load, and what it is given.
-#[derive(Debug, PartialEq)]
+#[derive(Clone, Debug, PartialEq)]
 pub struct Load {
     pub guest: u64,
     pub offset: Option<GuestAddress>,
@@ -73,57 +73,102 @@ impl Default for Load {
     }
 }
 
-/// Reads the words after the command's name.
-pub fn read(words: Vec<OsString>) -> Result<Request, lexopt::Error> {
+/// The options that were read, as they can be typed again.
+struct Typed(Vec<String>);
+
+impl Typed {
+    /// The value of an option.
+    fn value(&mut self, name: &str, parser: &mut lexopt::Parser) -> Result<String, lexopt::Error> {
+        let text = parser.value()?.into_string()?;
+        self.0.extend([format!("--{name}"), text.clone()]);
+        Ok(text)
+    }
+
+    fn number(&mut self, name: &str, parser: &mut lexopt::Parser) -> Result<u64, lexopt::Error> {
+        let text = self.value(name, parser)?;
+        sizes::number(&text).ok_or_else(|| {
+            format!("'{text}' is no size or address: write one as 4096, 64M or 0x100000").into()
+        })
+    }
+
+    fn address(
+        &mut self,
+        name: &str,
+        parser: &mut lexopt::Parser,
+    ) -> Result<Option<GuestAddress>, lexopt::Error> {
+        Ok(Some(GuestAddress(self.number(name, parser)?)))
+    }
+}
+
+/// Reads the words after the command's name, which is needed to show a line to type.
+pub fn read(name: &str, words: Vec<OsString>) -> Result<Request, lexopt::Error> {
     let mut parser = lexopt::Parser::from_args(words);
+    let parser = &mut parser;
     let mut load = Load::default();
+    let mut typed = Typed(Vec::new());
     let mut asked = false;
-    let mut options = false;
+    let mut file = None;
     while let Some(word) = parser.next()? {
         match word {
             Long("help") | Short('h') => return Ok(Request::Help),
             Long("version") | Short('V') => return Ok(Request::Version),
-            Value(word) if !asked && word == "load" => {
-                asked = true;
-                continue;
+            Value(word) if !asked && word == "load" => asked = true,
+            Value(word) if file.is_none() => file = Some(word),
+            Long("guest") => load.guest = typed.number("guest", parser)?,
+            Long("offset") => load.offset = typed.address("offset", parser)?,
+            Long("highmem") => load.highmem = typed.address("highmem", parser)?,
+            Long("cmdline") => load.cmdline = Some(typed.value("cmdline", parser)?),
+            Long("at") => load.at = typed.address("at", parser)?,
+            Long("format") => load.format = format(&typed.value("format", parser)?)?,
+            Long("verbose") | Short('v') => {
+                load.verbose = true;
+                typed.0.push("--verbose".to_string());
             }
-            Long("guest") => load.guest = number(&mut parser)?,
-            Long("offset") => load.offset = Some(GuestAddress(number(&mut parser)?)),
-            Long("highmem") => load.highmem = Some(GuestAddress(number(&mut parser)?)),
-            Long("cmdline") => load.cmdline = Some(parser.value()?.into_string()?),
-            Long("at") => load.at = Some(GuestAddress(number(&mut parser)?)),
-            Long("format") => load.format = format(&mut parser)?,
-            Long("verbose") | Short('v') => load.verbose = true,
             _ => return Err(word.unexpected()),
         }
-        options = true;
+    }
+    if let Some(file) = file {
+        return Err(by_standard_input(name, &typed.0, &file.to_string_lossy()).into());
     }
     if load.at.is_some() && load.cmdline.is_none() {
         return Err("--at says where a command line goes, and there is no --cmdline".into());
     }
-    match (asked, options) {
+    match (asked, typed.0.is_empty()) {
         (true, _) => Ok(Request::Load(load)),
-        (false, false) => Ok(Request::BuiltIn),
-        (false, true) => {
-            Err("these options belong to a load: rekusoyen load [OPTIONS] < IMAGE".into())
+        (false, true) => Ok(Request::BuiltIn),
+        (false, false) => {
+            Err(format!("these options belong to a load: {name} load [OPTIONS] < IMAGE").into())
         }
     }
 }
 
-fn number(parser: &mut lexopt::Parser) -> Result<u64, lexopt::Error> {
-    let text = parser.value()?.into_string()?;
-    sizes::number(&text).ok_or_else(|| {
-        format!("'{text}' is no size or address: write one as 4096, 64M or 0x100000").into()
-    })
-}
-
-fn format(parser: &mut lexopt::Parser) -> Result<Format, lexopt::Error> {
-    let text = parser.value()?.into_string()?;
-    match text.as_str() {
+fn format(text: &str) -> Result<Format, lexopt::Error> {
+    match text {
         "elf" => Ok(Format::Elf),
         "bzimage" => Ok(Format::BzImage),
         "auto" => Ok(Format::Auto),
         _ => Err(format!("'{text}' is no format: there are elf, bzimage and auto").into()),
+    }
+}
+
+/// A file was named: the line that would load it.
+fn by_standard_input(name: &str, options: &[String], file: &str) -> String {
+    let file = shell_word(file);
+    let mut line = vec![shell_word(name), "load".to_string()];
+    line.extend(options.iter().map(|word| shell_word(word)));
+    format!(
+        "the image comes by standard input, and {file} is one word too many; to load it:\n    {} < {file}",
+        line.join(" ")
+    )
+}
+
+/// A word as a shell takes it.
+fn shell_word(word: &str) -> String {
+    let plain = |c: char| c.is_ascii_alphanumeric() || "-_./=:,+@%".contains(c);
+    if !word.is_empty() && word.chars().all(plain) {
+        word.to_string()
+    } else {
+        format!("'{}'", word.replace('\'', "'\\''"))
     }
 }
 
@@ -132,7 +177,8 @@ mod tests {
     use super::*;
 
     fn read_words(words: &str) -> Result<Request, lexopt::Error> {
-        read(words.split_whitespace().map(OsString::from).collect())
+        let words = words.split_whitespace().map(OsString::from);
+        read("./rekusoyen", words.collect())
     }
 
     #[test]
@@ -157,8 +203,17 @@ mod tests {
     #[test]
     fn wrong_words_are_told() {
         for (words, told) in [
-            ("store", "unexpected argument"),
-            ("load load", "unexpected argument"),
+            ("store", "./rekusoyen load < store"),
+            ("load vmlinuz", "the image comes by standard input"),
+            (
+                "load --guest 64M vmlinuz --verbose",
+                "./rekusoyen load --guest 64M --verbose < vmlinuz",
+            ),
+            (
+                "load it's --cmdline load",
+                "./rekusoyen load --cmdline load < 'it'\\''s'",
+            ),
+            ("load one two", "unexpected argument \"two\""),
             ("load --colour", "invalid option '--colour'"),
             ("load --guest", "missing argument"),
             ("load --guest many", "'many' is no size or address"),
@@ -172,7 +227,8 @@ mod tests {
     }
 
     #[test]
-    fn help_fits_on_a_screen() {
+    fn help_fits_on_a_screen_and_says_what_is_compared() {
+        assert!(HELP.contains("e_entry (ELF) or code32_start"));
         assert!(HELP.lines().count() <= 24);
         assert!(HELP.lines().all(|line| line.chars().count() < 80));
     }

@@ -1,5 +1,6 @@
 //! The image, from standard input, and guest memory.
 
+use std::ffi::{c_int, c_void};
 use std::io::{self, IsTerminal, Read, Write};
 
 /// How many bytes are read between two looks at the progress line.
@@ -25,33 +26,77 @@ pub fn image(mut reader: impl Read, longest: usize) -> io::Result<Vec<u8>> {
             break;
         }
         if watched {
-            eprint!("\rread {} MiB", image.len() >> 20);
-            io::stderr().flush()?;
+            let mut terminal = io::stderr();
+            let _ = write!(terminal, "\rread {} MiB", image.len() >> 20);
+            let _ = terminal.flush();
             shown = true;
         }
     }
     if shown {
         // the line's words, blanked
-        eprint!("\r{:24}\r", "");
+        let _ = write!(io::stderr(), "\r{:24}\r", "");
     }
     Ok(image)
 }
 
-/// Guest memory of zeros, if there is so much. Pages that nothing touches cost nothing.
-pub fn guest(size: u64) -> Option<Vec<u8>> {
-    let size = usize::try_from(size).ok()?;
-    if size == 0 {
-        return Some(Vec::new());
+/// Guest memory of zeros. Of a large one the system keeps only the pages that are written, where it gives memory lazily.
+pub struct Guest {
+    start: *mut u8,
+    size: usize,
+}
+
+const PROT_READ_WRITE: c_int = 1 | 2;
+// as Linux numbers them, on x86-64 and on Arm alike
+const MAP_PRIVATE_ANONYMOUS: c_int = 0x2 | 0x20;
+const MAP_NORESERVE: c_int = 0x4000;
+const MAP_FAILED: usize = usize::MAX;
+
+extern "C" {
+    fn mmap(
+        place: *mut c_void,
+        size: usize,
+        protection: c_int,
+        flags: c_int,
+        file: c_int,
+        offset: i64,
+    ) -> *mut c_void;
+    fn munmap(place: *mut c_void, size: usize) -> c_int;
+}
+
+impl Guest {
+    /// Guest memory of a size, if the system gives so much.
+    pub fn new(size: u64) -> Option<Guest> {
+        let size = usize::try_from(size)
+            .ok()
+            .filter(|size| *size <= isize::MAX as usize)?;
+        if size == 0 {
+            // a mapping has a byte or more
+            let start = std::ptr::NonNull::dangling().as_ptr();
+            return Some(Guest { start, size });
+        }
+        let flags = MAP_PRIVATE_ANONYMOUS | MAP_NORESERVE;
+        // SAFETY: a new mapping at a place of the system's choice; it touches nothing else.
+        let start = unsafe { mmap(std::ptr::null_mut(), size, PROT_READ_WRITE, flags, -1, 0) };
+        (start as usize != MAP_FAILED).then_some(Guest {
+            start: start.cast(),
+            size,
+        })
     }
-    let layout = std::alloc::Layout::array::<u8>(size).ok()?;
-    // SAFETY: the layout has a size above 0.
-    let start = unsafe { std::alloc::alloc_zeroed(layout) };
-    if start.is_null() {
-        return None;
+
+    pub fn bytes(&mut self) -> &mut [u8] {
+        // SAFETY: the mapping has so many bytes, each of them a 0 at first, is this value's alone and lives as long; without bytes the
+        // pointer is dangling, as it may be.
+        unsafe { std::slice::from_raw_parts_mut(self.start, self.size) }
     }
-    // SAFETY: the bytes were given by the allocator that vectors use, with the layout of a vector of this capacity, and each of them is
-    // a 0.
-    Some(unsafe { Vec::from_raw_parts(start, size, size) })
+}
+
+impl Drop for Guest {
+    fn drop(&mut self) {
+        if self.size > 0 {
+            // SAFETY: the mapping was made by `new`, and nobody has its bytes any more.
+            unsafe { munmap(self.start.cast(), self.size) };
+        }
+    }
 }
 
 #[cfg(test)]
@@ -80,9 +125,21 @@ mod tests {
 
     #[test]
     fn guest_memory_is_zero_or_refused() {
-        assert_eq!(guest(0), Some(vec![]));
-        assert_eq!(guest(100), Some(vec![0; 100]));
-        assert_eq!(guest(u64::MAX), None);
-        assert_eq!(guest(i64::MAX as u64), None);
+        assert_eq!(Guest::new(0).unwrap().bytes(), []);
+        assert_eq!(Guest::new(100).unwrap().bytes(), [0; 100]);
+        assert!(Guest::new(u64::MAX).is_none());
+        assert!(Guest::new(i64::MAX as u64).is_none());
+    }
+
+    #[test]
+    fn much_guest_memory_is_given_lazily() {
+        let mut guest = Guest::new(1 << 40).expect("a system that gives memory lazily");
+        let bytes = guest.bytes();
+        assert_eq!(
+            (bytes.len(), bytes[0], bytes[(1 << 40) - 1]),
+            (1 << 40, 0, 0)
+        );
+        bytes[(1 << 40) - 1] = 7;
+        assert_eq!(bytes[(1 << 40) - 1], 7);
     }
 }

@@ -7,14 +7,30 @@ use rekusoyen::{GuestAddress, Refusal};
 use crate::arguments::{Format, Load};
 
 /// The greatest capacity of a command line.
-const CAPACITY: usize = 4096;
+pub const CAPACITY: usize = 4096;
 
 /// What an accepted load did.
 pub struct Loaded {
     pub format: Format,
     pub kernel: KernelLoaderResult,
     /// Where the command line went, if there is one.
-    pub line: Option<GuestAddress>,
+    pub line: Option<PutLine>,
+}
+
+/// A command line in guest memory.
+pub struct PutLine {
+    pub at: GuestAddress,
+    /// Its bytes, the zero counted.
+    pub size: u64,
+}
+
+/// What was refused.
+#[derive(Debug)]
+pub struct Refused {
+    pub refusal: Refusal,
+    pub format: Format,
+    /// Where the command line was to go, if it was refused and not the image.
+    pub line_at: Option<GuestAddress>,
 }
 
 /// The loader that an image is for: bzImage where only its header's four letters stand, else ELF, whose refusals say what is missing.
@@ -28,20 +44,26 @@ pub fn format_of(image: &[u8], asked: Format) -> Format {
 }
 
 /// Loads the image, and the line behind it or where it was told to go.
-pub fn load(guest: &mut [u8], image: &[u8], asked: &Load) -> Result<Loaded, Refusal> {
+pub fn load(guest: &mut [u8], image: &[u8], asked: &Load) -> Result<Loaded, Refused> {
     let format = format_of(image, asked.format);
+    let refused = |line_at| {
+        move |refusal| Refused {
+            refusal,
+            format,
+            line_at,
+        }
+    };
     let kernel = match format {
         Format::BzImage => BzImage::load_into(guest, asked.offset, image, asked.highmem),
         _ => Elf::load_into(guest, asked.offset, image, asked.highmem),
     };
-    let kernel = kernel.map_err(refusal_of)?;
+    let kernel = kernel.map_err(refusal_of).map_err(refused(None))?;
     let line = match &asked.cmdline {
         None => None,
         Some(text) => {
-            let line = Cmdline::try_from(text, CAPACITY).map_err(|error| error.refusal())?;
             let at = asked.at.unwrap_or(GuestAddress(kernel.kernel_end));
-            load_cmdline_into(guest, at, &line).map_err(refusal_of)?;
-            Some(at)
+            let size = put_line(guest, at, text).map_err(refused(Some(at)))?;
+            Some(PutLine { at, size })
         }
     };
     Ok(Loaded {
@@ -49,6 +71,14 @@ pub fn load(guest: &mut [u8], image: &[u8], asked: &Load) -> Result<Loaded, Refu
         kernel,
         line,
     })
+}
+
+/// Puts a line into guest memory; how many bytes it takes, its zero counted.
+fn put_line(guest: &mut [u8], at: GuestAddress, text: &str) -> Result<u64, Refusal> {
+    let line = Cmdline::try_from(text, CAPACITY).map_err(|error| error.refusal())?;
+    load_cmdline_into(guest, at, &line).map_err(refusal_of)?;
+    let written = line.as_cstring().map_err(|error| error.refusal())?;
+    Ok(written.as_bytes_with_nul().len() as u64)
 }
 
 fn refusal_of(error: rekusoyen::loader::Error) -> Refusal {

@@ -1,109 +1,156 @@
 //! Shows in one command what a kernel image would do to guest memory.
 
-mod advice;
 mod arguments;
 mod built_in;
+mod explain;
 mod input;
 mod load;
+mod notes;
 mod report;
 mod sizes;
 
-use std::io::{self, IsTerminal, Write};
+use std::io::{self, ErrorKind, IsTerminal, Write};
 use std::process::ExitCode;
 
 use arguments::{Load, Request};
+use explain::Explained;
+use load::Refused;
 use rekusoyen::Refusal;
 
 const REFUSED: u8 = 1;
 const WRONG_USAGE: u8 = 2;
 
 fn main() -> ExitCode {
-    let answer = match arguments::read(std::env::args_os().skip(1).collect()) {
-        Ok(Request::Help) => Ok(arguments::HELP.to_string()),
-        Ok(Request::Version) => Ok(format!("rekusoyen {}\n", env!("CARGO_PKG_VERSION"))),
-        Ok(Request::BuiltIn) => built_in(),
-        Ok(Request::Load(asked)) => from_input(&asked),
+    let mut words = std::env::args_os();
+    let name = words.next().unwrap_or_else(|| "rekusoyen".into());
+    let name = name.to_string_lossy();
+    let answer = match arguments::read(&name, words.collect()) {
+        Ok(Request::Help) => Ok(Answer::of(arguments::HELP.to_string())),
+        Ok(Request::Version) => Ok(Answer::of(format!(
+            "rekusoyen {}\n",
+            env!("CARGO_PKG_VERSION")
+        ))),
+        Ok(Request::BuiltIn) => Ok(built_in()),
+        Ok(Request::Load(asked)) => from_input(&name, &asked),
         Err(error) => Err(Failure::Usage(error.to_string())),
     };
     match answer {
-        Ok(text) => print(&text),
-        Err(Failure::Refused(refusal)) => {
-            eprintln!(
-                "refused {} {refusal:?}\n{}",
-                refusal.number(),
-                advice::advice(refusal)
-            );
+        Ok(answer) => {
+            for remark in answer.remarks {
+                say(&format!("rekusoyen: {remark}\n"));
+            }
+            print(&answer.result)
+        }
+        Err(Failure::Refused(told)) => {
+            say(&told);
             ExitCode::from(REFUSED)
         }
         Err(Failure::Usage(reason)) => {
-            eprintln!("rekusoyen: {reason}\nrekusoyen: 'rekusoyen --help' says what can be asked");
+            say(&format!(
+                "rekusoyen: {reason}\nrekusoyen: '{name} --help' says what can be asked\n"
+            ));
             ExitCode::from(WRONG_USAGE)
         }
     }
 }
 
-/// Why there is no result.
-enum Failure {
-    Refused(Refusal),
-    Usage(String),
+/// What is printed: the result on standard output, remarks on standard error.
+struct Answer {
+    result: String,
+    remarks: Vec<String>,
 }
 
-impl From<Refusal> for Failure {
-    fn from(refusal: Refusal) -> Self {
-        Failure::Refused(refusal)
+impl Answer {
+    fn of(result: String) -> Answer {
+        let remarks = Vec::new();
+        Answer { result, remarks }
     }
 }
 
-/// Standard output may be closed or full: then the load was for nothing.
+/// Why there is no result.
+enum Failure {
+    Refused(String),
+    Usage(String),
+}
+
+/// Writes to standard error; where nobody reads it there is nothing to be done.
+fn say(text: &str) {
+    let _ = io::stderr().write_all(text.as_bytes());
+}
+
+/// Standard output may be closed: then whoever read it has had enough. It may be full: then the load was for nothing.
 fn print(text: &str) -> ExitCode {
-    match io::stdout().write_all(text.as_bytes()) {
+    let mut out = io::stdout();
+    match out.write_all(text.as_bytes()).and_then(|()| out.flush()) {
         Ok(()) => ExitCode::SUCCESS,
+        Err(error) if error.kind() == ErrorKind::BrokenPipe => ExitCode::SUCCESS,
         Err(error) => {
-            eprintln!("rekusoyen: standard output cannot be written: {error}");
+            say(&format!(
+                "rekusoyen: standard output cannot be written: {error}\n"
+            ));
             ExitCode::from(WRONG_USAGE)
         }
     }
 }
 
 /// Loads the image that standard input has.
-fn from_input(asked: &Load) -> Result<String, Failure> {
+fn from_input(name: &str, asked: &Load) -> Result<Answer, Failure> {
     if io::stdin().is_terminal() {
-        return Err(Failure::Usage(
-            "the image comes by standard input: rekusoyen load < IMAGE".to_string(),
-        ));
+        return Err(Failure::Usage(format!(
+            "the image comes by standard input: {name} load < IMAGE"
+        )));
     }
     let image = input::image(io::stdin().lock(), input::LONGEST)
         .map_err(|error| Failure::Usage(format!("standard input cannot be read: {error}")))?;
-    let mut guest = input::guest(asked.guest).ok_or_else(|| {
+    let mut guest = input::Guest::new(asked.guest).ok_or_else(|| {
         Failure::Usage(format!(
-            "there are no {} bytes for guest memory",
+            "the system gives no {} bytes for guest memory",
             asked.guest
         ))
     })?;
-    let loaded = load::load(&mut guest, &image, asked)?;
-    let details = if asked.verbose {
-        report::details(&loaded, &image, asked)
-    } else {
-        String::new()
-    };
-    Ok(details + &report::result(&loaded))
+    match load::load(guest.bytes(), &image, asked) {
+        Ok(loaded) => {
+            let mut result = String::new();
+            if asked.verbose {
+                result += &report::details(loaded.format, &image, asked);
+            }
+            result += &report::result(&loaded);
+            let remarks = report::remarks(&loaded, &image, asked);
+            Ok(Answer { result, remarks })
+        }
+        Err(refused) => Err(Failure::Refused(told(&refused, &image, asked))),
+    }
+}
+
+/// A refusal: number and name, what it was about, and what to try.
+fn told(refused: &Refused, image: &[u8], asked: &Load) -> String {
+    let refusal: Refusal = refused.refusal;
+    let Explained { about, advice } = explain::explain(refused, image, asked);
+    let mut text = format!("refused {} {refusal:?}\n{about}\n", refusal.number());
+    if let Some(advice) = advice {
+        text += &format!("try: {advice}\n");
+    }
+    if asked.verbose {
+        text += &report::details(refused.format, image, asked);
+    }
+    text
 }
 
 /// Loads the built-in image, with a line behind it, and shows all that was done.
-fn built_in() -> Result<String, Failure> {
+fn built_in() -> Answer {
     let image = built_in::image();
     let mut guest = vec![b'.'; built_in::GUEST];
     let asked = Load {
+        guest: guest.len() as u64,
         cmdline: Some("quiet".to_string()),
-        verbose: true,
         ..Load::default()
     };
-    let loaded = load::load(&mut guest, &image, &asked)?;
-    Ok(format!(
+    let loaded = load::load(&mut guest, &image, &asked).expect("the built-in image is a good one");
+    Answer::of(format!(
         "A built-in ELF image of {} bytes and the command line 'quiet', loaded into {} bytes of guest memory:\n\n{}\n{}\n{}\n{}\n",
         image.len(),
         guest.len(),
-        report::details(&loaded, &image, &asked),
+        report::details(loaded.format, &image, &asked),
         report::result(&loaded),
         shown(&guest),
         "Yours: rekusoyen load < IMAGE. More: rekusoyen --help",

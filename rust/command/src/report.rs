@@ -1,37 +1,82 @@
-//! What an accepted load prints.
+//! What a load prints. Addresses and places are hexadecimal and sizes decimal; only the lines of the result have decimal addresses.
 
 use std::fmt::Write;
 
-use rekusoyen::loader::elf::{notes, segments, PvhBootCapability, Segment};
+use rekusoyen::loader::elf::{segments, PvhBootCapability, Segment};
 
 use crate::arguments::{Format, Load};
-use crate::load::Loaded;
+use crate::explain::elf::Problem;
+use crate::load::{Loaded, PutLine};
+use crate::notes::{walk, Stop};
 
 /// The result: a line each, a word and a number.
 pub fn result(loaded: &Loaded) -> String {
     let kernel = &loaded.kernel;
     let mut text = format!("load {}\nend {}\n", kernel.kernel_load.0, kernel.kernel_end);
     if loaded.format == Format::Elf {
-        text += &format!("pvh {}\n", pvh(kernel.pvh_boot_cap));
+        text += &match kernel.pvh_boot_cap {
+            PvhBootCapability::PvhEntryIgnored => "pvh ignored\n".to_string(),
+            PvhBootCapability::PvhEntryNotPresent => "pvh none\n".to_string(),
+            PvhBootCapability::PvhEntryPresent(address) => format!("pvh {}\n", address.0),
+        };
     }
-    if let Some(at) = loaded.line {
-        text += &format!("cmdline {}\n", at.0);
+    if let Some(line) = &loaded.line {
+        text += &format!("cmdline {}\n", line.at.0);
     }
     text
 }
 
-fn pvh(said: PvhBootCapability) -> String {
-    match said {
-        PvhBootCapability::PvhEntryIgnored => "ignored".to_string(),
-        PvhBootCapability::PvhEntryNotPresent => "none".to_string(),
-        PvhBootCapability::PvhEntryPresent(address) => address.0.to_string(),
+/// What a person should know of an accepted load beside its result.
+pub fn remarks(loaded: &Loaded, image: &[u8], asked: &Load) -> Vec<String> {
+    let mut remarks = Vec::new();
+    let is_elf = loaded.format == Format::Elf;
+    if is_elf && loaded.kernel.pvh_boot_cap == PvhBootCapability::PvhEntryIgnored {
+        remarks.push(if asked.offset.is_some() {
+            "pvh is ignored since --offset moves the kernel away from its PVH entry".to_string()
+        } else {
+            "pvh is ignored since the image has no segment with notes".to_string()
+        });
     }
+    if let Some(line) = &loaded.line {
+        remarks.extend(overwritten(loaded, image, asked, line));
+    }
+    remarks
 }
 
-/// What the load went through: the segments and notes of an ELF image, or the parts of a bzImage.
-pub fn details(loaded: &Loaded, image: &[u8], asked: &Load) -> String {
-    match loaded.format {
-        Format::BzImage => bzimage_details(loaded, image),
+/// The parts of the kernel that a line lies over.
+fn overwritten(loaded: &Loaded, image: &[u8], asked: &Load, line: &PutLine) -> Vec<String> {
+    let line_end = line.at.0 + line.size;
+    let parts: Vec<(String, u64, u64)> = match loaded.format {
+        Format::BzImage => {
+            let (start, end) = (loaded.kernel.kernel_load.0, loaded.kernel.kernel_end);
+            vec![("the kernel".to_string(), start, end)]
+        }
+        _ => segments(image)
+            .enumerate()
+            .filter(|(_, segment)| segment.is_loadable())
+            .filter_map(|(i, segment)| {
+                let start = address_of(&segment, asked)?;
+                let end = start.checked_add(segment.p_filesz.max(segment.p_memsz))?;
+                Some((format!("segment {i}"), start, end))
+            })
+            .collect(),
+    };
+    let over = parts
+        .into_iter()
+        .filter(|(_, start, end)| *start < line_end && line.at.0 < *end);
+    let told = |(what, start, end)| {
+        format!(
+            "the command line at {:#x} to {line_end:#x} lies over {what} at {start:#x} to {end:#x}",
+            line.at.0
+        )
+    };
+    over.map(told).collect()
+}
+
+/// What an image says: the segments and notes of an ELF image, or the parts of a bzImage. Of a refused load each says whether it is good.
+pub fn details(format: Format, image: &[u8], asked: &Load) -> String {
+    match format {
+        Format::BzImage => bzimage_details(image, asked),
         _ => elf_details(image, asked),
     }
 }
@@ -39,7 +84,11 @@ pub fn details(loaded: &Loaded, image: &[u8], asked: &Load) -> String {
 fn elf_details(image: &[u8], asked: &Load) -> String {
     let mut text = String::new();
     for (i, segment) in segments(image).enumerate() {
-        let _ = writeln!(text, "segment {i}: {}", segment_details(&segment, asked));
+        let _ = writeln!(
+            text,
+            "segment {i}: {}",
+            segment_details(&segment, image, asked)
+        );
         if segment.is_note() && asked.offset.is_none() {
             text += &note_details(image, &segment);
         }
@@ -47,7 +96,13 @@ fn elf_details(image: &[u8], asked: &Load) -> String {
     text
 }
 
-fn segment_details(segment: &Segment, asked: &Load) -> String {
+fn address_of(segment: &Segment, asked: &Load) -> Option<u64> {
+    let offset = asked.offset.map_or(0, |offset| offset.0);
+    offset.checked_add(segment.p_paddr)
+}
+
+/// A segment, with the sizes that it asks for; where it is refused, with those that there are.
+pub fn segment_details(segment: &Segment, image: &[u8], asked: &Load) -> String {
     let bytes = format!("{} bytes at {:#x}", segment.p_filesz, segment.p_offset);
     if segment.is_note() {
         let told = if asked.offset.is_some() {
@@ -55,71 +110,109 @@ fn segment_details(segment: &Segment, asked: &Load) -> String {
         } else {
             ""
         };
-        format!("notes, {bytes}{told}")
-    } else if !segment.is_loadable() {
-        format!("type {:#x}, {bytes}, skipped", segment.p_type)
-    } else if segment.p_filesz == 0 {
-        format!(
+        return format!("notes, {bytes}{told}");
+    }
+    if !segment.is_loadable() {
+        return format!("type {:#x}, {bytes}, skipped", segment.p_type);
+    }
+    if segment.p_filesz == 0 {
+        return format!(
             "load, no bytes, skipped; its {} bytes of memory are not counted",
             segment.p_memsz
-        )
-    } else {
-        let address = asked.offset.map_or(0, |offset| offset.0) + segment.p_paddr;
-        let end = address + segment.p_memsz;
-        format!("load, {bytes} to guest {address:#x}, memory to {end:#x}")
+        );
+    }
+    let address = address_of(segment, asked).unwrap_or(u64::MAX);
+    match Problem::of(segment, image, asked) {
+        None => format!(
+            "load, {bytes} to guest {address:#x}, memory to {:#x}",
+            u128::from(address) + u128::from(segment.p_memsz)
+        ),
+        Some(Problem::Address) => format!(
+            "load, {bytes}: the offset {:#x} and p_paddr {:#x} add up to 2^64 or more",
+            asked.offset.map_or(0, |offset| offset.0),
+            segment.p_paddr
+        ),
+        Some(Problem::Image) => format!(
+            "load, {bytes}: they end at {:#x}, and the image at {:#x}",
+            u128::from(segment.p_offset) + u128::from(segment.p_filesz),
+            image.len()
+        ),
+        Some(Problem::Guest(end)) => format!(
+            "load, {bytes} to guest {address:#x}: they end at {end:#x}, and guest memory at {:#x}",
+            asked.guest
+        ),
+        Some(Problem::Memory) => format!(
+            "load, {bytes} to guest {address:#x}: with its {} bytes of memory it ends at 2^64 or more",
+            segment.p_memsz
+        ),
     }
 }
 
-/// The notes that the load read, which are as many as the library says.
+/// The notes of a segment, up to the one that a load stops at.
 fn note_details(image: &[u8], segment: &Segment) -> String {
-    let Ok(found) = notes(image, segment.p_offset, segment.p_filesz) else {
-        return String::new();
-    };
     let mut text = String::new();
-    let mut at = segment.p_offset as usize;
-    for i in 0..found.headers {
-        let size = |place: usize| u32_at(image, at + place);
-        let (name_size, descriptor_size, kind) = (size(0), size(4), size(8));
-        let name = text_at(image, at + 12, name_size as usize);
+    let walked = walk(image, segment.p_offset, segment.p_filesz);
+    for (i, note) in walked.notes.iter().enumerate() {
         let _ = writeln!(
             text,
-            "  note {i}: '{name}' of type {kind}, descriptor of {descriptor_size} bytes"
+            "  note {i}: '{}' of type {}, descriptor of {} bytes",
+            note.name, note.kind, note.descriptor_size
         );
-        at += 12 + rounded_up(name_size) + rounded_up(descriptor_size);
     }
-    let _ = writeln!(text, "  pvh {}", pvh(found.pvh_boot_cap));
+    let _ = match walked.stop {
+        Stop::End => writeln!(text, "  no pvh entry"),
+        Stop::Found(address) => writeln!(text, "  pvh entry {address:#x}"),
+        _ => writeln!(
+            text,
+            "  note {} at {:#x} is refused",
+            walked.notes.len(),
+            walked.place
+        ),
+    };
     text
 }
 
-fn bzimage_details(loaded: &Loaded, image: &[u8]) -> String {
-    let Some(header) = loaded.kernel.setup_header else {
-        return String::new();
+fn bzimage_details(image: &[u8], asked: &Load) -> String {
+    let header = Setup::of(image);
+    let size = match (image.len() as u64).checked_sub(header.size) {
+        Some(kernel) => format!("{kernel} bytes at {:#x}", header.size),
+        None => format!("none, since the image has {} bytes", image.len()),
     };
-    let kernel = loaded.kernel.kernel_end - loaded.kernel.kernel_load.0;
-    let setup = image.len() as u64 - kernel;
-    let version = header.version;
     format!(
-        "setup: {setup} bytes, boot protocol {}.{:02}\nkernel: {kernel} bytes at {setup:#x} to guest {:#x}\n",
-        version >> 8,
-        version & 0xff,
-        loaded.kernel.kernel_load.0
+        "setup: {} bytes, boot protocol {}.{:02}\nkernel: {size} to guest {:#x}\n",
+        header.size,
+        header.version >> 8,
+        header.version & 0xff,
+        asked.offset.map_or(header.code32_start, |offset| offset.0)
     )
 }
 
-fn rounded_up(size: u32) -> usize {
-    (size as usize).next_multiple_of(4)
+/// What the setup header of a bzImage says.
+pub struct Setup {
+    /// The bytes of the setup: its sectors, and the first one.
+    pub size: u64,
+    pub version: u64,
+    pub code32_start: u64,
 }
 
-/// Four bytes at a place; those past the end count as 0.
-fn u32_at(bytes: &[u8], place: usize) -> u32 {
-    let four = bytes.get(place..place + 4).unwrap_or(&[0; 4]);
-    u32::from_le_bytes([four[0], four[1], four[2], four[3]])
+impl Setup {
+    pub fn of(image: &[u8]) -> Setup {
+        let sectors = match number(image, 0x1f1, 1) {
+            0 => 4,
+            sectors => sectors,
+        };
+        Setup {
+            size: (sectors + 1) * 512,
+            version: number(image, 0x206, 2),
+            code32_start: number(image, 0x214, 4),
+        }
+    }
 }
 
-/// A name without its zero, as far as the image has it.
-fn text_at(bytes: &[u8], place: usize, size: usize) -> String {
-    let rest = bytes.get(place..).unwrap_or_default();
-    let name = &rest[..size.min(rest.len())];
-    let shown = name.split(|byte| *byte == 0).next().unwrap_or_default();
-    shown.escape_ascii().to_string()
+/// A number of up to 8 bytes at a place, least byte first; bytes past the image count as 0.
+pub fn number(image: &[u8], place: usize, width: usize) -> u64 {
+    (0..width).fold(0, |sum, i| {
+        let byte = image.get(place + i).copied().unwrap_or(0);
+        sum | u64::from(byte) << (8 * i)
+    })
 }

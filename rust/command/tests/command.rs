@@ -1,6 +1,8 @@
 //! The command as a person runs it: words and standard input in; what it prints, and its exit status, out.
 
 use std::io::Write;
+use std::os::fd::OwnedFd;
+use std::os::unix::net::UnixStream;
 use std::process::{Command, Stdio};
 
 /// What a run printed, and its exit status.
@@ -31,22 +33,33 @@ fn run(words: &[&str], input: &[u8]) -> Run {
     }
 }
 
-fn accepted(words: &[&str], input: &[u8], out: &str) {
+/// An accepted load: its result on standard output, and remarks on standard error.
+fn accepted_with(words: &[&str], input: &[u8], out: &str, err: &str) {
     let expected = Run {
         out: out.to_string(),
-        err: String::new(),
+        err: err.to_string(),
         status: Some(0),
     };
     assert_eq!(run(words, input), expected, "{words:?}");
 }
 
-/// A refusal: nothing on standard output, and one line of number and name and one sentence on standard error.
-fn refused(words: &[&str], input: &[u8], first_line: &str) {
-    let run = run(words, input);
-    assert_eq!((run.out.as_str(), run.status), ("", Some(1)), "{words:?}");
-    let lines: Vec<_> = run.err.lines().collect();
-    assert_eq!((lines.len(), lines[0]), (2, first_line), "{words:?}");
+fn accepted(words: &[&str], input: &[u8], out: &str) {
+    accepted_with(words, input, out, "");
 }
+
+/// A refused load: nothing on standard output; on standard error number and name, what it was about, and what to try.
+fn refused(words: &[&str], input: &[u8], err: &str) {
+    let expected = Run {
+        out: String::new(),
+        err: err.to_string(),
+        status: Some(1),
+    };
+    assert_eq!(run(words, input), expected, "{words:?}");
+}
+
+const NO_NOTES: &str = "rekusoyen: pvh is ignored since the image has no segment with notes\n";
+const OFFSET: &str =
+    "rekusoyen: pvh is ignored since --offset moves the kernel away from its PVH entry\n";
 
 /// An ELF image: entry 16, and one segment of 3 bytes for address 16 with 8 bytes of memory.
 fn elf() -> Vec<u8> {
@@ -89,23 +102,34 @@ fn bzimage() -> Vec<u8> {
     image
 }
 
+/// The ELF image with another number at a place.
+fn edited(place: usize, value: &[u8]) -> Vec<u8> {
+    let mut image = elf();
+    image[place..place + value.len()].copy_from_slice(value);
+    image
+}
+
+/// The ELF image with notes in place of its segment.
+fn elf_with(notes: &[u8]) -> Vec<u8> {
+    let mut image = elf();
+    image[64] = 4;
+    image[96] = notes.len() as u8;
+    image.truncate(120);
+    image.extend(notes);
+    image
+}
+
 #[test]
 fn an_elf_load_prints_three_lines() {
-    accepted(&["load"], &elf(), "load 16\nend 24\npvh ignored\n");
-    accepted(
-        &["load", "--guest", "19"],
-        &elf(),
-        "load 16\nend 24\npvh ignored\n",
-    );
-    accepted(
+    let told = "load 16\nend 24\npvh ignored\n";
+    accepted_with(&["load"], &elf(), told, NO_NOTES);
+    accepted_with(&["load", "--guest", "19"], &elf(), told, NO_NOTES);
+    accepted_with(&["load", "--highmem", "16"], &elf(), told, NO_NOTES);
+    accepted_with(
         &["load", "--offset", "0x4"],
         &elf(),
         "load 20\nend 28\npvh ignored\n",
-    );
-    accepted(
-        &["load", "--highmem", "16"],
-        &elf(),
-        "load 16\nend 24\npvh ignored\n",
+        OFFSET,
     );
     accepted(
         &["load", "--format", "elf"],
@@ -125,73 +149,281 @@ fn a_bzimage_load_prints_two() {
 }
 
 #[test]
+fn as_much_guest_memory_as_is_taken() {
+    accepted(
+        &["load", "--guest", "1T", "--offset", "0xfffffffffd"],
+        &bzimage(),
+        "load 1099511627773\nend 1099511627776\n",
+    );
+    refused(
+        &["load", "--guest", "2T"],
+        &bzimage(),
+        "refused 60 SliceTooLong\n\
+         guest memory has 2199023255552 bytes, and at most 1099511627776 are taken\n\
+         try: --guest 1T or less\n",
+    );
+}
+
+#[test]
 fn a_line_goes_where_it_is_told_or_behind_the_kernel() {
     let line = ["load", "--guest", "30", "--cmdline", "quiet"];
-    accepted(&line, &elf(), "load 16\nend 24\npvh ignored\ncmdline 24\n");
     let at = |address| [&line[..], &["--at", address]].concat();
-    accepted(
-        &at("2"),
+    let told = |address| format!("load 16\nend 24\npvh ignored\ncmdline {address}\n");
+    accepted_with(&line, &elf(), &told(24), NO_NOTES);
+    accepted_with(&at("2"), &elf(), &told(2), NO_NOTES);
+    accepted_with(&at("10"), &elf(), &told(10), NO_NOTES);
+    refused(
+        &at("25"),
         &elf(),
-        "load 16\nend 24\npvh ignored\ncmdline 2\n",
+        "refused 32 CommandLineOverflow\n\
+         the command line's 6 bytes go to guest 0x19 to 0x1f, and guest memory ends at 0x1e\n\
+         try: --guest 0x1f or more, or a lower --at\n",
     );
-    refused(&at("25"), &elf(), "refused 32 CommandLineOverflow");
     refused(
         &["load", "--cmdline", " -- init"],
         &elf(),
-        "refused 31 InvalidCommandLine",
+        "refused 31 InvalidCommandLine\n\
+         the command line has init arguments alone: nothing stands before its ' -- '\n\
+         try: a boot argument before it, as in 'quiet -- single'\n",
     );
     refused(
         &["load", "--cmdline", &"x".repeat(4096)],
         &elf(),
-        "refused 41 InvalidCapacity",
+        "refused 41 InvalidCapacity\nthe command line of 4096 bytes takes more than 4096, its zero counted\n",
     );
 }
 
 #[test]
-fn a_refusal_has_number_name_and_advice() {
+fn a_line_over_the_kernel_is_remarked_on() {
+    // its last byte on the segment's first, its first on the last byte of the segment's memory
+    for (at, from, to) in [("11", "0xb", "0x11"), ("23", "0x17", "0x1d")] {
+        let words = ["load", "--guest", "30", "--cmdline", "quiet", "--at", at];
+        let over = format!(
+            "rekusoyen: the command line at {from} to {to} lies over segment 0 at 0x10 to 0x18\n"
+        );
+        let told = format!("load 16\nend 24\npvh ignored\ncmdline {at}\n");
+        accepted_with(&words, &elf(), &told, &format!("{NO_NOTES}{over}"));
+    }
+    accepted_with(
+        &["load", "--guest", "30", "--cmdline", "quiet", "--at", "18"],
+        &bzimage(),
+        "load 16\nend 19\ncmdline 18\n",
+        "rekusoyen: the command line at 0x12 to 0x18 lies over the kernel at 0x10 to 0x13\n",
+    );
+}
+
+#[test]
+fn a_refused_elf_load_says_what_it_was_about() {
     refused(
         &["load", "--guest", "18"],
         &elf(),
-        "refused 10 ReadKernelImage",
+        "refused 10 ReadKernelImage\n\
+         segment 0: load, 3 bytes at 0x78 to guest 0x10: they end at 0x13, and guest memory at 0x12\n\
+         try: --guest 0x13 or more\n",
+    );
+    refused(
+        &["load"],
+        &elf()[..122],
+        "refused 10 ReadKernelImage\nsegment 0: load, 3 bytes at 0x78: they end at 0x7b, and the image at 0x7a\n",
+    );
+    // more guest memory than is taken is no advice
+    refused(
+        &["load"],
+        &edited(88, &(1u64 << 50).to_le_bytes()),
+        "refused 10 ReadKernelImage\n\
+         segment 0: load, 3 bytes at 0x78 to guest 0x4000000000000: they end at 0x4000000000003, and guest memory at 0x40000000\n",
     );
     refused(
         &["load", "--highmem", "17"],
         &elf(),
-        "refused 5 InvalidEntryAddress",
+        "refused 5 InvalidEntryAddress\n\
+         e_entry is 0x10, below the start of high memory, 0x11\n\
+         try: --highmem 0x10 or lower, or none\n",
     );
-    refused(&["load"], b"", "refused 7 ReadElfHeader");
-    refused(&["load"], &[0; 64], "refused 1 InvalidElfMagicNumber");
+    refused(
+        &["load"],
+        b"",
+        "refused 7 ReadElfHeader\nstandard input was empty\n",
+    );
+    refused(
+        &["load"],
+        &elf()[..63],
+        "refused 7 ReadElfHeader\nthe image has 63 bytes, and an ELF header has 64\n",
+    );
+    refused(
+        &["load"],
+        &[0; 64],
+        "refused 1 InvalidElfMagicNumber\n\
+         the image begins with 00 00 00 00, and an ELF image with 7f 45 4c 46, and there is no 'HdrS' of a bzImage at 0x202\n",
+    );
+    refused(
+        &["load"],
+        &edited(5, &[2]),
+        "refused 2 BigEndianElfOnLittle\nbyte 5 of the ELF header is 2, and not 1: its numbers are big-endian\n",
+    );
+    let mut narrow = edited(54, &[32]);
+    narrow[4] = 1;
+    refused(
+        &["load"],
+        &narrow,
+        "refused 3 InvalidProgramHeaderSize\n\
+         e_phentsize is 32, and a program header has 56 bytes: it is a 32-bit ELF image\n",
+    );
+    refused(
+        &["load"],
+        &edited(32, &[52]),
+        "refused 4 InvalidProgramHeaderOffset\n\
+         e_phoff is 0x34: the program headers would begin inside the ELF header, which has 64 bytes\n",
+    );
+    refused(
+        &["load"],
+        &edited(56, &[2]),
+        "refused 8 ReadProgramHeader\n\
+         2 program headers of 56 bytes from e_phoff 0x40 on end at 0xb0, and the image at 0x7b\n",
+    );
+    refused(
+        &["load", "--offset", "0xfffffffffffffff0"],
+        &elf(),
+        "refused 6 Overflow\n\
+         the offset 0xfffffffffffffff0 and e_entry 0x10 add up to 2^64 or more\n\
+         try: a lower --offset, or none\n",
+    );
+    refused(
+        &["load", "--offset", "0xfffffffffffffff0"],
+        &edited(24, &[0]),
+        "refused 9 InvalidProgramHeaderAddress\n\
+         segment 0: load, 3 bytes at 0x78: the offset 0xfffffffffffffff0 and p_paddr 0x10 add up to 2^64 or more\n\
+         try: a lower --offset, or none\n",
+    );
+    refused(
+        &["load"],
+        &edited(104, &[0xff; 8]),
+        "refused 13 MemoryOverflow\n\
+         segment 0: load, 3 bytes at 0x78 to guest 0x10: with its 18446744073709551615 bytes of memory it ends at 2^64 or more\n",
+    );
+}
+
+#[test]
+fn a_refused_note_is_told_by_its_place() {
+    let advice =
+        "try: --offset 0, with which the kernel stays where it is and notes are not read\n";
+    let first = b"\x04\0\0\0\0\0\0\0\x01\0\0\0GNU\0";
+    let large = [&first[..], b"\xfd\xff\xff\xff\0\0\0\0\x01\0\0\0"].concat();
+    refused(
+        &["load"],
+        &elf_with(&large),
+        &format!(
+            "refused 6 Overflow\n\
+             segment 0, note 1 at 0x88: its name's size is 0xfffffffd, which rounded up to 4 does not fit into 32 bits\n{advice}"
+        ),
+    );
+    refused(
+        &["load"],
+        &elf_with(&[&first[..], b"\0\0\0\0"].concat()),
+        &format!(
+            "refused 11 ReadNoteHeader\n\
+             segment 0, note 1 at 0x88: its header ends at 0x94, and the image at 0x8c\n{advice}"
+        ),
+    );
+    refused(
+        &["load"],
+        &elf_with(b"\x04\0\0\0\x03\0\0\0\x12\0\0\0Xen\0\0\0\0\0"),
+        &format!(
+            "refused 12 InvalidPvhNote\n\
+             segment 0, note 0 at 0x78: the descriptor of the PVH note has 3 bytes, and an address needs 4\n{advice}"
+        ),
+    );
+}
+
+#[test]
+fn a_refused_bzimage_load_says_what_it_was_about() {
     refused(
         &["load", "--guest", "0"],
         &bzimage(),
-        "refused 24 ReadBzImageCompressedKernel",
+        "refused 24 ReadBzImageCompressedKernel\n\
+         the kernel's 3 bytes go to guest 0x10 to 0x13, and guest memory ends at 0x0\n\
+         try: --guest 0x13 or more, or another --offset\n",
+    );
+    refused(
+        &["load"],
+        &bzimage()[..1023],
+        "refused 22 Underflow\nits setup has 1024 bytes, by setup_sects at 0x1f1, and the image has 1023\n",
+    );
+    refused(
+        &["load", "--highmem", "1M"],
+        &bzimage(),
+        "refused 23 InvalidKernelStartAddress\n\
+         code32_start is 0x10, below the start of high memory, 0x100000\n\
+         try: --highmem 0x10 or lower, or none\n",
+    );
+    let mut old = bzimage();
+    old[0x207] = 1;
+    refused(
+        &["load"],
+        &old,
+        "refused 21 InvalidBzImage\nits boot protocol at 0x206 is 1.15, and 2.00 is needed\n",
+    );
+    let mut low = bzimage();
+    low[0x211] = 0;
+    refused(
+        &["load"],
+        &low,
+        "refused 21 InvalidBzImage\nbit 0 of loadflags at 0x211 is 0: its kernel is not loaded high\n",
+    );
+}
+
+#[test]
+fn a_format_that_is_forced_gets_no_false_hint() {
+    refused(
+        &["load", "--format", "elf"],
+        &bzimage(),
+        "refused 1 InvalidElfMagicNumber\n\
+         the image begins with 00 00 00 00, and an ELF image with 7f 45 4c 46: it looks like a bzImage\n\
+         try: without --format elf\n",
     );
     refused(
         &["load", "--format", "bzimage"],
         &elf(),
-        "refused 21 InvalidBzImage",
+        "refused 21 InvalidBzImage\n\
+         the image has 123 bytes, and 'HdrS' of a bzImage stands at 0x202: it looks like an ELF image\n\
+         try: without --format bzimage\n",
     );
-    refused(&["load"], &bzimage()[..1023], "refused 22 Underflow");
-    let run = run(&["load", "--guest", "18"], &elf());
-    assert!(run.err.contains("give a larger --guest"), "{}", run.err);
+    let packed = [&b"\x1f\x8b"[..], &[0; 70]].concat();
+    refused(
+        &["load"],
+        &packed,
+        "refused 1 InvalidElfMagicNumber\n\
+         the image begins with 1f 8b 00 00, and an ELF image with 7f 45 4c 46: \
+         it looks like a gzip file\n\
+         try: to unpack it first\n",
+    );
 }
 
 #[test]
 fn verbose_shows_segments_notes_and_parts() {
-    accepted(
+    accepted_with(
         &["load", "--verbose"],
         &elf(),
         "segment 0: load, 3 bytes at 0x78 to guest 0x10, memory to 0x18\nload 16\nend 24\npvh ignored\n",
+        NO_NOTES,
     );
-    accepted(
+    accepted_with(
         &["load", "--verbose", "--offset", "16"],
         &elf_with_notes(),
         "segment 0: notes, 0 bytes at 0x78, not read since there is an offset\nload 32\nend 0\npvh ignored\n",
+        OFFSET,
     );
     accepted(
         &["load", "--verbose"],
         &bzimage(),
         "setup: 1024 bytes, boot protocol 2.15\nkernel: 3 bytes at 0x400 to guest 0x10\nload 16\nend 19\n",
+    );
+    // of a refused load, too
+    let segment = "segment 0: load, 3 bytes at 0x78 to guest 0x10: they end at 0x13, and guest memory at 0x12\n";
+    refused(
+        &["load", "--verbose", "--guest", "18"],
+        &elf(),
+        &format!("refused 10 ReadKernelImage\n{segment}try: --guest 0x13 or more\n{segment}"),
     );
 }
 
@@ -200,7 +432,7 @@ fn without_words_a_built_in_image_is_loaded() {
     let run = run(&[], b"");
     assert_eq!((run.err.as_str(), run.status), ("", Some(0)));
     for shown in [
-        "  note 0: 'Xen' of type 18, descriptor of 4 bytes\n  pvh 32\n",
+        "  note 0: 'Xen' of type 18, descriptor of 4 bytes\n  pvh entry 0x20\n",
         "load 32\nend 48\npvh 32\ncmdline 48\n",
         "guest 0x20  kernel..........\nguest 0x30  quiet\\x00..........\n",
     ] {
@@ -226,4 +458,39 @@ fn wrong_usage_is_told_apart() {
         b"",
         concat!("rekusoyen ", env!("CARGO_PKG_VERSION"), "\n"),
     );
+}
+
+#[test]
+fn a_file_that_is_named_gets_the_line_to_type() {
+    let run = run(&["load", "--guest", "64M", "my vmlinuz"], b"");
+    assert_eq!((run.out.as_str(), run.status), ("", Some(2)));
+    let name = env!("CARGO_BIN_EXE_rekusoyen");
+    let line = format!("\n    {name} load --guest 64M < 'my vmlinuz'\n");
+    assert!(run.err.contains(&line), "{}", run.err);
+}
+
+/// Whoever reads the result may have had enough: the command ends without a word.
+#[test]
+fn a_closed_pipe_ends_quietly() {
+    for words in [&["--help"][..], &[], &["load"]] {
+        let (reader, writer) = UnixStream::pair().expect("a pair of sockets");
+        drop(reader);
+        let mut child = Command::new(env!("CARGO_BIN_EXE_rekusoyen"))
+            .args(words)
+            .stdin(Stdio::piped())
+            .stdout(OwnedFd::from(writer))
+            .stderr(Stdio::piped())
+            .spawn()
+            .expect("the command starts");
+        let mut stdin = child.stdin.take().expect("its standard input is a pipe");
+        let _ = stdin.write_all(&bzimage());
+        drop(stdin);
+        let output = child.wait_with_output().expect("the command ends");
+        let err = String::from_utf8_lossy(&output.stderr).into_owned();
+        assert_eq!(
+            (err.as_str(), output.status.code()),
+            ("", Some(0)),
+            "{words:?}"
+        );
+    }
 }

@@ -11,6 +11,7 @@
 use std::fmt;
 
 use super::{told, KernelLoaderResult, Result};
+use crate::entry;
 use crate::lent::{self, Guest, Options};
 use crate::GuestAddress;
 
@@ -115,9 +116,9 @@ impl fmt::Display for PvhBootCapability {
 /// PVH as the library tells it: a code, and an address that means something for one of them.
 fn pvh(code: u64, address: u64) -> PvhBootCapability {
     match code {
-        0 => PvhBootCapability::PvhEntryIgnored,
-        1 => PvhBootCapability::PvhEntryNotPresent,
-        2 => PvhBootCapability::PvhEntryPresent(GuestAddress(address)),
+        entry::PVH_IGNORED => PvhBootCapability::PvhEntryIgnored,
+        entry::PVH_NOT_PRESENT => PvhBootCapability::PvhEntryNotPresent,
+        entry::PVH_PRESENT => PvhBootCapability::PvhEntryPresent(GuestAddress(address)),
         _ => unreachable!("PVH has three codes, and the library told {code}"),
     }
 }
