@@ -175,22 +175,22 @@ fn made(target: &Target) -> PathBuf {
         .status()
     {
         Ok(status) if status.success() => folder,
-        Ok(_) => fail(&format!(
-            "it was not made; {}.log says why, if anything was proved",
-            folder.join(LIBRARY).display()
-        )),
+        Ok(_) => fail(&format!("{} was not made", folder.join(LIBRARY).display())),
         Err(error) => fail(&format!("{command:?} cannot be run: {error}")),
     }
 }
 
 /// Cargo holds back what a build script prints until it has ended. Proving takes minutes, and whoever waits is told so at once: on the
-/// standard error of cargo itself, if that can be opened.
+/// standard error of cargo itself, if that is a terminal or a pipe.
 fn standard_error_of_cargo() -> Stdio {
     #[cfg(unix)]
     {
         let place = format!("/proc/{}/fd/2", std::os::unix::process::parent_id());
         if let Ok(file) = fs::OpenOptions::new().append(true).open(place) {
-            return Stdio::from(file);
+            // in a regular file cargo would write over it later
+            if matches!(file.metadata(), Ok(about) if !about.is_file()) {
+                return Stdio::from(file);
+            }
         }
     }
     Stdio::inherit()
