@@ -3,7 +3,7 @@ ghost use mathlib.Core.Path.{_≡_};
 ghost use Rattle.answers.specs.Catalogue.{numberOf};
 ghost use Rattle.answers.specs.Tests.{asked, isOpen};
 
-// Every refusal, by name. Its number is `number`'s to say, and no other place writes it.
+// Every refusal, by name. Its number is `number`'s to say; the C header and the Rust crate repeat it, and are tested to say the same.
 pub enum Refusal {
     // ELF
     InvalidElfMagicNumber,
