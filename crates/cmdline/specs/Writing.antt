@@ -55,6 +55,11 @@ abbrev pub writtenNumber : Written → ℕ
 writtenNumber (written.Bytes n) = 0
 writtenNumber (written.Refused r) = numberOf r
 
+-- and its values: the count of bytes; a refusal has none
+unfoldable pub writtenCount : Written → List ℕ
+writtenCount (written.Bytes n) = n ∷ []
+writtenCount (written.Refused r) = []
+
 -- the bytes that are written: the text and its zero, or nothing
 abbrev pub writtenBytes : Gate → Text → List ℕ
 writtenBytes Open t = whole t ++ (0 ∷ [])

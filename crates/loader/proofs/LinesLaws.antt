@@ -19,10 +19,8 @@ use Rattle.answers.specs.declared.Gate.{Gate}
 use Rattle.answers.specs.declared.Gate.the-variants.{Open, Shut}
 use Rattle.answers.proofs.TestsLaws.{all-open, first-shut}
 use Rattle.slugs.specs.Bytes.{has}
-use Rattle.cmdline.specs.Held.{textOf, WrittenAs}
 use Rattle.cmdline.specs.Text.{Text}
-use Rattle.cmdline.specs.Writing.{headed, wholeOf, whole, textTests, textGate, writeGate, writtenOf, writtenBytes}
-use Rattle.cmdline.specs.declared.Cmdline.{Cmdline}
+use Rattle.cmdline.specs.Writing.{headed, wholeOf, whole, textTests, textGate, writeGate, writtenOf, writtenBytes, Writes, bare}
 use Rattle.cmdline.specs.declared.Written.{Written}
 use Rattle.cmdline.specs.declared.Written.the-variants as written
 use Rattle.guest.specs.Room.{room}
@@ -109,11 +107,8 @@ pub refused-long : (t : Text) (address : ℕ) (guest : List ℕ) → allowed (le
 unfolding pour
 refused-long t address guest e = loads-as t address guest (Shut SliceTooLong) (too-long t (length guest) address e) refl refl
 
-module _ (line : Cmdline) (address at : ℕ) (guest : List ℕ) {ys : List ℕ} {w : Written} {r : Answer} (short : allowed (length guest) ≡ true)
-    (starts : at ≡ min address (length guest)) (wrote : WrittenAs line (midOf at (length guest - at) guest) w ys) (answers : r ≡ answerFor w) where
-  abbrev t : Text
-  t = textOf line
-
+module _ (t : Text) (address at : ℕ) (guest : List ℕ) {ys : List ℕ} {w : Written} {r : Answer} (short : allowed (length guest) ≡ true)
+    (starts : at ≡ min address (length guest)) (wrote : Writes t (midOf at (length guest - at) guest) w ys) (answers : r ≡ answerFor w) where
   abbrev part : List ℕ
   part = midOf at (length guest - at) guest
 
@@ -163,3 +158,9 @@ open-after t address guest h = ap (λ gate. pour (streamOf gate address (lineByt
 pub shut-after : (t : Text) (address : ℕ) (guest : List ℕ) {refusal : Refusal} → FirstFails refusal (tests t (length guest) address) → guestAfter t address guest ≡ guest
 unfolding guestAfter gateOf pour
 shut-after t address guest {refusal} f = ap (λ gate. pour (streamOf gate address (lineBytes t)) guest) (first-shut (tests t (length guest) address) refusal f)
+
+-- the capacity of a line has no part in its loading
+pub loads-any : (t : Text) {address : ℕ} {guest : List ℕ} {r : Answer} {after : List ℕ} → LineLoads (bare (t .boot) (t .init)) address guest r after
+    → LineLoads t address guest r after
+unfolding guestAfter gateOf
+loads-any t w = record { answer = w .answer; written = w .written }

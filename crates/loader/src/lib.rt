@@ -12,10 +12,13 @@
 // A command line put into guest memory.
 ghost use mathlib.Core.Path.{_≡_};
 ghost use Rattle.cmdline.specs.Held.{textOf};
+ghost use Rattle.cmdline.specs.Writing.{bare};
 ghost use Rattle.loader.specs.Lines.{answerFor, LineLoads};
 use answers::Refusal;
 use cmdline::Cmdline;
+use cmdline::LIMIT;
 use cmdline::Written;
+use cmdline::writing;
 use fields::copying;
 use guest::GuestAddress;
 use guest::sizes;
@@ -41,15 +44,26 @@ fn answer_for(written: Written) -> Answer
     }
 }
 
-// Writes the line and its zero to an address. The part of guest memory that begins there is lent on, and the writer sees only that part: an
-// address past the end lends the empty part, in which no line has room.
-pub fn load_cmdline(guest: &mut [u8], guest_addr: GuestAddress, cmdline: Cmdline) -> Answer
-    ensures { λ r. ⌜ LineLoads (textOf cmdline) («guest_addr» .0) (now (guest .entry)) r (now (guest .exit)) ⌝ }
+// Writes the line of two texts and its zero to an address. The part of guest memory that begins there is lent on, and the writer sees only that
+// part: an address past the end lends the empty part, in which no line has room.
+pub fn load_texts(guest: &mut [u8], guest_addr: GuestAddress, boot: &[u8], init: &[u8]) -> Answer
+    ensures { λ r. ⌜ LineLoads (bare (now (boot .entry)) (now (init .entry))) («guest_addr» .0) (now (guest .entry)) r (now (guest .exit)) ⌝ }
 {
     if !sizes::is_allowed(guest.len() as u64) {
         return Answer::Refused(Refusal::SliceTooLong);
     }
     let at = copying::lesser(guest_addr.0 as usize, guest.len());
-    let written = cmdline.as_cstring(&mut guest[at..]);
+    let written = writing::as_cstring(&mut guest[at..], boot, init);
     answer_for(written)
+}
+
+// The same of a line by value.
+pub fn load_cmdline(guest: &mut [u8], guest_addr: GuestAddress, cmdline: Cmdline) -> Answer
+    ensures { λ r. ⌜ LineLoads (textOf cmdline) («guest_addr» .0) (now (guest .entry)) r (now (guest .exit)) ⌝ }
+{
+    let boots = copying::lesser(cmdline.boots, LIMIT);
+    let inits = copying::lesser(cmdline.inits, LIMIT);
+    let boot = cmdline.boot;
+    let init = cmdline.init;
+    load_texts(guest, guest_addr, &boot[..boots], &init[..inits])
 }

@@ -1,38 +1,50 @@
--- `loader::load_cmdline`: what is written into the part is poured at the address, and the line's answer is turned.
+-- `loader::load_cmdline`: the texts are lent on, and a capacity has no part in loading.
 use borrow.Author.Needs.{needs}
-use Rattle.answers.proofs.PickLaws.{failed, held}
+use mathlib.Core.Path.{_≡_, sym}
+use native.Mathlib.Omega.{arith}
+use lib.ListN.{length}
+use lib.Seq.{length-take-le}
+use Rattle.cmdline.specs.Limit.{limit}
 use Rattle.cmdline.specs.Held.{textOf}
-use Rattle.loader.proofs.LinesLaws.{refused-long, line-loads}
+use Rattle.loader.proofs.LinesLaws.{loads-any}
 use Rattle.loader.proofs.load_cmdline.Statement.{statement}
 use Rattle.loader.proofs.load_cmdline.Tie as tie
 
+array-share-prefix-boot : tie.Need-array-share-prefix-boot
+array-share-prefix-boot c =
+    let long : length (c .before .before .before .before .before .before .args .cmdline .boot) ≡ limit = search needs in
+    omega (arith, c .before .before .before .before .lesser .ensures)
+
+slice-aggregate-load-texts : tie.Need-slice-aggregate-load-texts
+slice-aggregate-load-texts c =
+    let long : length (c .before .before .before .before .before .before .before .args .cmdline .boot) ≡ limit = search needs in
+    sym (length-take-le (c .before .before .before .before .before .lesser .result) (c .before .before .before .before .before .before .before .args .cmdline .boot) (omega (arith, c .before .before .before .before .before .lesser .ensures)))
+
+array-share-prefix-init : tie.Need-array-share-prefix-init
+array-share-prefix-init c =
+    let long : length (c .before .before .before .before .before .before .before .args .cmdline .init) ≡ limit = search needs in
+    omega (arith, c .before .before .before .before .lesser2 .ensures)
+
+slice-aggregate-load-texts-2 : tie.Need-slice-aggregate-load-texts-2
+slice-aggregate-load-texts-2 c =
+    let long : length (c .before .before .before .before .before .before .before .before .args .cmdline .init) ≡ limit = search needs in
+    sym (length-take-le (c .before .before .before .before .before .lesser2 .result) (c .before .before .before .before .before .before .before .before .args .cmdline .init) (omega (arith, c .before .before .before .before .before .lesser2 .ensures)))
+
 returns : tie.Need-returns
 returns c =
-    let args = c .before .before .before .args in
-    refused-long (textOf (args .cmdline)) (args .guest-addr .0) (args .guest .now) (failed (c .before .is-allowed .ensures) (c .if1 .taken))
-
-returns-2 : tie.Need-returns-2
-returns-2 c =
-    let at-as-cstring = c .before .before .before in
-    let at-lesser = at-as-cstring .before .before in
-    let at-if1 = at-lesser .before in
-    let at-is-allowed = at-if1 .before in
-    let start = at-is-allowed .before .before in
-    let args = start .args in
-    line-loads (args .cmdline) (args .guest-addr .0) (at-lesser .lesser .result) (args .guest .now) (held (at-is-allowed .is-allowed .ensures) (at-if1 .if1 .left))
-    (at-lesser .lesser .ensures) (at-as-cstring .as-cstring .ensures) (c .answer-for .ensures)
+    let args = c .before .before .before .before .before .before .before .before .before .before .before .args in
+    loads-any (textOf (args .cmdline)) (rw (c .before .before .before .before .before .before .before .before .before .lesser .ensures, c .before .before .before .before .before .before .before .before .lesser2 .ensures) at (c .before .before .load-texts .ensures))
 
 pub load-cmdline-spec : {M : Type 1} → statement M
 load-cmdline-spec =
     tie.close
     (tie.spec
     (λ c κs. search needs)
-    returns
+    (λ c κs. search needs)
+    array-share-prefix-boot
+    slice-aggregate-load-texts
+    array-share-prefix-init
+    slice-aggregate-load-texts-2
     (λ c κs. search needs)
     (λ c. search needs)
-    (λ c. search needs)
-    (λ c. search needs)
-    (λ c κs. search needs)
-    (λ c κs. search needs)
-    (λ c. search needs)
-    returns-2)
+    returns)
