@@ -9,7 +9,7 @@ use Rattle.cmdline.specs.declared.Answer.the-variants.{Accepted, Refused
 use Rattle.slugs.specs.Bytes.{space, quote, dash, equals}
 use Rattle.cmdline.specs.Insertion.{callNumber}
 use Rattle.cmdline.specs.Writing.{sameBytes}
-use Rattle.cmdline.specs.Calls.{Making, makes-new, makes-from, Call, inserts, inserts-str, inserts-init-args, Said, answered, wrote, compared, run}
+use Rattle.cmdline.specs.Calls.{Making, makes-new, makes-from, Call, inserts, inserts-str, inserts-init-args, Said, answered, wrote, compared, told, run}
 use Rattle.slugs.specs.Splitting.{separator}
 
 -- a line made and called at a capacity; what the last of them answers, and the texts that are left
@@ -26,6 +26,7 @@ unfoldable pub says : Answer → Said → Bool
 says a (answered b) = eqb (callNumber a) (callNumber b)
 says a (wrote w bytes) = false
 says a (compared b) = false
+says a (told values) = false
 
 -- the last of what was said is this answer
 unfoldable pub lastSays : Answer → List Said → Bool

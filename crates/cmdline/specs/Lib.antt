@@ -1,5 +1,6 @@
 pub mod Limit
 pub mod Text
+pub mod Fitting
 pub mod Insertion
 pub mod Digits
 pub mod Device

@@ -70,6 +70,11 @@ pub record Writes (t : Text) (out : List ℕ) (r : Written) (left : List ℕ) : 
   pub answer : r ≡ writtenOf (writeGate t (length out)) t
   pub bytes : left ≡ sets out 0 (writtenBytes (writeGate t (length out)) t)
 
+-- two written answers are the same, by how the tests of each end: what is said, and the bytes
+pub record SameWritten (a b : Text) (g h : Gate) : Type 0 where
+  pub answer : writtenOf g a ≡ writtenOf h b
+  pub bytes : writtenBytes g a ≡ writtenBytes h b
+
 -- two texts alone: writing and comparing do not look at a capacity
 abbrev pub bare : List ℕ → List ℕ → Text
 bare boot init = record { boot = boot; init = init; capacity = 0 }
