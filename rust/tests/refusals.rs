@@ -23,20 +23,6 @@ fn every_refusal_is_reached_and_has_its_number() {
     }
 }
 
-/// The proved code has the table of numbers; the one here has the same names and numbers, in the same order.
-#[test]
-fn numbers_are_those_of_the_proved_code() {
-    let proved = include_str!("../../crates/answers/src/lib.rt").lines();
-    let proved: Vec<_> = proved
-        .filter_map(|line| line.trim().strip_prefix("Refusal::")?.strip_suffix(','))
-        .collect();
-    let here = Refusal::ALL.iter();
-    let here: Vec<_> = here
-        .map(|refusal| format!("{refusal:?} => {}", refusal.number()))
-        .collect();
-    assert_eq!(here, proved);
-}
-
 /// No bytes lead to these: a reader that fails does, or nothing at all.
 #[test]
 fn errors_without_a_number() {

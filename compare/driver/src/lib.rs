@@ -3,6 +3,7 @@
 
 pub mod answer;
 pub mod backend;
+mod cases;
 pub mod cli;
 pub mod compare;
 mod decode;

@@ -2,6 +2,7 @@
 
 use crate::answer::Answer;
 use crate::backend::{Maker, Reply};
+use crate::cases;
 use crate::compare;
 use crate::encode::framed;
 use crate::examples;
@@ -120,6 +121,7 @@ fn questions_of_sample() -> Vec<Question> {
             questions.push(question);
         }
     }
+    questions.extend(cases::all().into_iter().map(|(question, _)| question));
     questions
 }
 

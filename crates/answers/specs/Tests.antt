@@ -16,6 +16,11 @@ unfoldable pub asked : Gate → Bool → Refusal → Gate
 asked Open ok refusal = pick ok Open (Shut refusal)
 asked (Shut first) ok refusal = Shut first
 
+-- did no test refuse?
+unfoldable pub isOpen : Gate → Bool
+isOpen Open = true
+isOpen (Shut refusal) = false
+
 -- a row of tests, in order
 abbrev pub askedAll : Gate → List Test → Gate
 askedAll gate [] = gate

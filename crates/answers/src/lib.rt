@@ -1,7 +1,7 @@
 // Every answer that is a refusal, and the order in which tests refuse.
 ghost use mathlib.Core.Path.{_≡_};
 ghost use Rattle.answers.specs.Catalogue.{numberOf};
-ghost use Rattle.answers.specs.Tests.{asked};
+ghost use Rattle.answers.specs.Tests.{asked, isOpen};
 
 // Every refusal, by name. Its number is `number`'s to say, and no other place writes it.
 pub enum Refusal {
@@ -91,6 +91,16 @@ pub fn number(refusal: Refusal) -> u32
 pub enum Gate {
     Open,
     Shut(Refusal),
+}
+
+// Did no test refuse?
+pub fn is_open(gate: Gate) -> bool
+    ensures { λ r. ⌜ r ≡ isOpen gate ⌝ }
+{
+    match gate {
+        Gate::Open => true,
+        Gate::Shut(_) => false,
+    }
 }
 
 // One more test: it refuses where it fails and none before it refused.

@@ -4,20 +4,17 @@ use mathlib.Core.Path.{_≡_, refl, sym, _∙_, ap}
 use mathlib.Core.List.{List, [], _∷_}
 use native.Mathlib.Omega.{arith}
 use native.Mathlib.Nat.{add-zero, add-suc}
-use lib.ListN.{length, getD, set, drop, replicate, length-drop}
+use lib.ListN.{length, getD, drop, replicate, length-drop}
 use lib.Seq.{sets, take-all, getD-drop}
 use borrow.Rule.Slice.PartMut.{midOf}
-use Rattle.fields.proofs.CopyingLaws.{sets-out}
+use Rattle.fields.specs.Numbers.{leBytes}
+use Rattle.fields.proofs.CopyingLaws.{sets-out, sets-behind}
 use Rattle.guest.proofs.PartLaws.{drop-clipped}
 use Rattle.bzimage.specs.SetupHeader.{headerSize, placeOf}
-use Rattle.bzimage.specs.Header.{bytesFrom, bytesOf, headerOf}
+use Rattle.bzimage.specs.Header.{bytesFrom, headerOf}
 use Rattle.bzimage.proofs.SetupHeaderLaws.{at-setup-sects, at-code32-start}
 
 -- ---- zeros, of which the front is stored over
-
-sets-behind : (vs l : List ℕ) (x i : ℕ) → sets (x ∷ l) (suc i) vs ≡ x ∷ sets l i vs
-sets-behind [] l x i = refl
-sets-behind (v ∷ vs) l x i = sets-behind vs (set l i v) x (suc i)
 
 bytes-behind : (n : ℕ) (vs : List ℕ) (v p : ℕ) → bytesFrom n (v ∷ vs) (suc p) ≡ bytesFrom n vs p
 unfolding bytesFrom
@@ -55,7 +52,7 @@ read-over n p s {from} e =
 
 -- the whole header: first is where it begins, and q where code32_start does
 pub header-made : {first from q : ℕ} {h r : List ℕ} (s : List ℕ) (load : ℕ) → first ≡ placeOf 0 → from ≡ min first (length s)
-    → h ≡ sets (replicate headerSize 0) 0 (midOf from (length s - from) s) → q ≡ placeOf 16 → r ≡ sets h (q - first) (bytesOf 4 load) → r ≡ headerOf s load
+    → h ≡ sets (replicate headerSize 0) 0 (midOf from (length s - from) s) → q ≡ placeOf 16 → r ≡ sets h (q - first) (leBytes 4 load) → r ≡ headerOf s load
 unfolding headerOf
 header-made {first} s load ep ef eh eq er =
     er ∙ rw (eh ∙ read-over headerSize first s ef, ep, eq, at-setup-sects, at-code32-start)

@@ -35,6 +35,11 @@ pub length-kernel : (s : List ℕ) → length (kernelOf s) ≡ kernelSize s
 unfolding kernelOf kernelSize
 length-kernel s = length-drop (setupSize s) s
 
+-- each of its bytes stands in the image
+pub kernel-place : (s : List ℕ) (i : ℕ) → i < kernelSize s → setupSize s + i < length s
+unfolding kernelSize
+kernel-place s i h = omega arith
+
 -- so many bytes from the setup size on are the kernel
 pub kernel-bytes : (s : List ℕ) {p n : ℕ} → p ≡ setupSize s → n ≡ kernelSize s → bytesAt s p n ≡ kernelOf s
 unfolding kernelOf

@@ -11,4 +11,4 @@ pub place-one : OneOutcome 0 place-kinds.ps place-kinds.r place-reads.Post
 place-one κs a z z' ws ws' p q = (meet p q, refl)
 
 pub load-one : OneOutcome 2 load-kinds.ps load-kinds.r load-reads.Post
-load-one κs a z z' ws ws' p q = (meet (p .outcome) (q .outcome), first (meet (p .written) (q .written)))
+load-one κs a z z' ws ws' p q = (meet (p .answer) (q .answer), first (meet (p .memory) (q .memory)))

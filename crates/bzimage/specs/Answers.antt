@@ -6,11 +6,11 @@ use Rattle.bzimage.specs.declared.Answer.{Answer}
 use Rattle.bzimage.specs.declared.Answer.the-variants.{Loaded, Refused}
 
 -- the number of an answer: the refusal's, and 0 where the kernel is loaded
-unfoldable pub answerNumber : Answer → ℕ
-answerNumber (Loaded k) = 0
-answerNumber (Refused refusal) = numberOf refusal
+unfoldable pub bzImageNumber : Answer → ℕ
+bzImageNumber (Loaded k) = 0
+bzImageNumber (Refused refusal) = numberOf refusal
 
 -- the values beside it: the load address and the kernel's end; a refusal has none
-unfoldable pub answerValues : Answer → List ℕ
-answerValues (Loaded k) = k .«kernel_load» .0 ∷ k .«kernel_end» .0 ∷ []
-answerValues (Refused refusal) = []
+unfoldable pub bzImageValues : Answer → List ℕ
+bzImageValues (Loaded k) = k .«kernel_load» .0 ∷ k .«kernel_end» .0 ∷ []
+bzImageValues (Refused refusal) = []

@@ -7,12 +7,13 @@
 //
 // SPDX-License-Identifier: Apache-2.0 AND BSD-3-Clause
 
-// Big zImage (bzImage) kernels. A load is a plan, made of the image, the size of guest memory and the options alone, and its pouring.
-ghost use Rattle.bzimage.specs.Plan.{Loads};
+// Big zImage (bzImage) kernels. A load is a plan, made of the image, the memory and the options alone, and its pouring.
+ghost use Rattle.bzimage.specs.Plan.{KernelLoads};
 use answers::Refusal;
 use guest::Given;
 use guest::GuestAddress;
 use guest::ImagePlace;
+use guest::Memory;
 use guest::copying;
 
 mod header;
@@ -39,9 +40,12 @@ pub struct Outcome {
 
 // Loads a kernel from a bzImage to guest memory: at the offset if one is given, else at `code32_start` of the setup header.
 pub fn load(guest: &mut [u8], image: &[u8], kernel_offset: Given, highmem_start: Given) -> Outcome
-    ensures { λ r. ⌜ Loads (now (image .entry)) «kernel_offset» «highmem_start» (now (guest .entry)) r (now (guest .exit)) ⌝ }
+    ensures { λ r. ⌜ KernelLoads (now (image .entry)) «kernel_offset» «highmem_start» (now (guest .entry)) r (now (guest .exit)) ⌝ }
 {
-    let outcome = plan::plan_load(image, guest.len() as u64, kernel_offset, highmem_start);
+    let memory = Memory {
+        size: guest.len() as u64,
+    };
+    let outcome = plan::plan_load(image, memory, kernel_offset, highmem_start);
     let answer = outcome.answer;
     match answer {
         Answer::Loaded(loaded) => {

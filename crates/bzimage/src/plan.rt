@@ -9,7 +9,9 @@
 
 // The plan of a load: the tests in their order, and the answer.
 ghost use mathlib.Core.Path.{_≡_};
-ghost use Rattle.bzimage.specs.Plan.{roomFor, gateOf, refusedAs, planOf};
+ghost use Rattle.bzimage.specs.Plan.{roomFor, tests, refusedAs, planOf};
+ghost use Rattle.answers.specs.Tests.{askedAll};
+ghost use Rattle.answers.specs.declared.Gate.the-variants.{Open};
 use crate::Answer;
 use crate::KernelLoaderResult;
 use crate::Outcome;
@@ -21,23 +23,24 @@ use answers::Refusal;
 use fields::numbers;
 use guest::Given;
 use guest::GuestAddress;
+use guest::Memory;
 use guest::addresses;
+use guest::lent;
 use guest::room;
-use guest::sizes;
 
 // Is there room for n bytes at an address? For none there always is.
-fn room_for(size: u64, address: GuestAddress, n: u64) -> bool
-    ensures { λ r. ⌜ r ≡ roomFor size (address .0) n ⌝ }
+fn room_for(memory: Memory, address: GuestAddress, n: u64) -> bool
+    ensures { λ r. ⌜ r ≡ roomFor memory (address .0) n ⌝ }
 {
     if n == 0 {
         return true;
     }
-    room::has_room(size, address, n)
+    room::has_room(memory, address, n)
 }
 
 // The tests. Every reading is total, so no test guards another.
-fn validate(image: &[u8], size: u64, offset: Given, highmem: Given) -> Gate
-    ensures { λ r. ⌜ r ≡ gateOf (now (image .entry)) size offset highmem ⌝ }
+fn validate(image: &[u8], memory: Memory, offset: Given, highmem: Given) -> Gate
+    ensures { λ r. ⌜ r ≡ askedAll Open (tests (now (image .entry)) memory offset highmem) ⌝ }
 {
     let len = image.len() as u64;
     let magic = numbers::read_u32(image, setup_header::place(setup_header::HEADER));
@@ -46,9 +49,8 @@ fn validate(image: &[u8], size: u64, offset: Given, highmem: Given) -> Gate
     let setup = kernel::setup_size(image);
     let start = kernel::code32_start(image);
     let load = addresses::given_or(offset, start);
-    let room = room_for(size, load, kernel::kernel_size(image));
-    let gate = answers::require(Gate::Open, sizes::is_allowed(len), Refusal::SliceTooLong);
-    let gate = answers::require(gate, sizes::is_allowed(size), Refusal::SliceTooLong);
+    let room = room_for(memory, load, kernel::kernel_size(image));
+    let gate = lent::ask(len, memory);
     let gate = answers::require(gate, magic == 0x5372_6448, Refusal::InvalidBzImage);
     let gate = answers::require(gate, 0x200 <= version, Refusal::InvalidBzImage);
     let gate = answers::require(gate, flags % 2 == 1, Refusal::InvalidBzImage);
@@ -70,11 +72,11 @@ fn refused(refusal: Refusal) -> Outcome
     }
 }
 
-// What a load into guest memory of this size answers.
-pub fn plan_load(image: &[u8], size: u64, offset: Given, highmem: Given) -> Outcome
-    ensures { λ r. ⌜ r ≡ planOf (now (image .entry)) size offset highmem ⌝ }
+// What a load into a memory answers.
+pub(crate) fn plan_load(image: &[u8], memory: Memory, offset: Given, highmem: Given) -> Outcome
+    ensures { λ r. ⌜ r ≡ planOf (now (image .entry)) memory offset highmem .answer ⌝ }
 {
-    let gate = validate(image, size, offset, highmem);
+    let gate = validate(image, memory, offset, highmem);
     match gate {
         Gate::Shut(refusal) => refused(refusal),
         Gate::Open => {

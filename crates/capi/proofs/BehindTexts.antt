@@ -18,6 +18,12 @@ use Rattle.cmdline.specs.Text.{Text}
 use Rattle.cmdline.specs.Insertion.{Plan, answerOf, callNumber, settled, insert, insertMultiple, insertStr, insertInitArgs}
 use Rattle.cmdline.specs.Device.{addDevice}
 use Rattle.cmdline.specs.Writing as writing
+use Rattle.guest.specs.Loading as loading
+use Rattle.guest.specs.Room.{memoryOf}
+use Rattle.guest.specs.Stream.{pour}
+use Rattle.loader.specs.declared.Answer.{Answer}
+use Rattle.loader.specs.declared.Answer.the-variants.{Refused}
+use Rattle.loader.specs.Lines as lines
 use Rattle.capi.specs.Lines
 use Rattle.capi.proofs.HoldsLaws.{holds-text}
 use Rattle.capi.proofs.LinesStay.{AppendsTo, call-holds, insert-appends, multiple-appends, str-appends, init-appends, device-appends}
@@ -135,6 +141,11 @@ equal-behind a b c d out s u w =
 
 pub load-behind : (a b : List ℕ) (address : ℕ) (guest : List ℕ) {r : ℕ} {after : List ℕ} → Lines.SameLine a b → Lines.LineLoadsFrom a address guest r after
     → Lines.LineLoadsFrom b address guest r after
-unfolding Lines.lineGate
 load-behind a b address guest s w =
-    record { answer = rw (same-tests a b s, s .text) at (w .answer); memory = rw (same-tests a b s, s .text) at (w .memory) }
+    let plan : Lines.loadPlan a (memoryOf guest) address ≡ Lines.loadPlan b (memoryOf guest) address =
+    ap (λ (ts : List Test). loading.behindTests Refused (ts ++ lines.tests (Lines.textIn a) (memoryOf guest) address) (lines.linePlan (Lines.textIn a) address)) (same-tests a b s)
+    ∙ ap (λ (t : Text). loading.behindTests Refused (Lines.lineTests b ++ lines.tests t (memoryOf guest) address) (lines.linePlan t address)) (s .text) in
+    record {
+      answer = w .answer ∙ ap (λ (p : loading.Plan Answer). lines.lineNumber (p .answer)) plan;
+      memory = w .memory ∙ ap (λ (p : loading.Plan Answer). pour (p .stream) guest) plan;
+    }

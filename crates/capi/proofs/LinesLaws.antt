@@ -42,9 +42,12 @@ use Rattle.cmdline.specs.Writing as writing
 use Rattle.cmdline.proofs.TextLaws.{size-boot, size-init, init-asked, joined-long}
 use Rattle.cmdline.proofs.MakingLaws.{allowed-most}
 use Rattle.cmdline.proofs.WritingLaws.{writes-any}
+use Rattle.guest.specs.Loading as loading
+use Rattle.guest.specs.Room.{memoryOf}
+use Rattle.guest.specs.Stream.{pour}
 use Rattle.loader.specs.declared.Answer.{Answer}
-use Rattle.loader.specs.Lines as loader
-use Rattle.loader.proofs.LinesLaws.{loads-any}
+use Rattle.loader.specs.declared.Answer.the-variants.{Refused}
+use Rattle.loader.specs.Lines as lines
 use Rattle.capi.specs.declared.lines.Header.{Header}
 use Rattle.capi.specs.Loads.{Tells}
 use Rattle.capi.specs.Lines
@@ -464,39 +467,43 @@ module _ (a b out : List ℕ) {g : Gate} {one two : Header} (asks : g ≡ asked 
 -- ---- loading
 
 module _ (bytes : List ℕ) (address : ℕ) (guest : List ℕ) {header : Header} (reads : header ≡ Lines.headerBy Open bytes) where
-  load-gate : header .gate ≡ Lines.lineGate bytes
-  unfolding Lines.lineGate
-  load-gate = header-gate bytes reads
+  abbrev row : List Test
+  row = lines.tests (Lines.textIn bytes) (memoryOf guest) address
+
+  abbrev plan : loading.Plan Answer
+  plan = lines.linePlan (Lines.textIn bytes) address
 
   pub load-refused : {refusal : Refusal} {r : ℕ} → header .gate ≡ Shut refusal → r ≡ numberOf refusal → Lines.LineLoadsFrom bytes address guest r guest
+  unfolding loading.behindTests lines.lineNumber pour
   load-refused {refusal} e er =
-      let gate : Shut refusal ≡ Lines.lineGate bytes = sym e ∙ load-gate in
+      let gate : Shut refusal ≡ askedAll Open (Lines.lineTests bytes ++ row) =
+      sym (asked-append Open (Lines.lineTests bytes) row ∙ ap (λ (g : Gate). askedAll g row) (sym (header-gate bytes reads) ∙ e) ∙ shut-stays row refusal) in
       record {
-        answer =
-            er
-            ∙ ap
-            (λ (x : Gate). Lines.gateNumber x (loader.answerNumber (loader.answerOf (loader.gateOf (Lines.textIn bytes) (length guest) address)))) gate;
-        memory = ap (λ (x : Gate). settled x guest (loader.guestAfter (Lines.textIn bytes) address guest)) gate;
+        answer = er ∙ ap (λ (g : Gate). lines.lineNumber (loading.behindGate Refused g plan .answer)) gate;
+        memory = ap (λ (g : Gate). pour (loading.behindGate Refused g plan .stream) guest) gate;
       }
 
   pub load-told : {answer : Answer} {r : ℕ} {boot init after : List ℕ} → header .gate ≡ Open → boot ≡ take (header .boots) (drop Lines.bootPlace bytes)
-      → init ≡ take (header .inits) (drop Lines.initPlace bytes) → loader.LineLoads (writing.bare boot init) address guest answer after
-      → r ≡ loader.answerNumber answer → Lines.LineLoadsFrom bytes address guest r after
-  unfolding Lines.headerBy
+      → init ≡ take (header .inits) (drop Lines.initPlace bytes) → lines.LineLoads (writing.bare (take limit boot) (take limit init)) address guest answer after
+      → r ≡ lines.lineNumber answer → Lines.LineLoadsFrom bytes address guest r after
+  unfolding loading.behindTests Lines.headerBy
   load-told {answer} {r} {boot} {init} {after} e eb ei loads er =
       let t = Lines.textIn bytes in
-      let gate : Open ≡ Lines.lineGate bytes = sym e ∙ load-gate in
-      let same-boot : boot ≡ t .boot = eb ∙ ap (λ (h : Header). take (h .boots) (drop Lines.bootPlace bytes)) reads in
-      let same-init : init ≡ t .init = ei ∙ ap (λ (h : Header). take (h .inits) (drop Lines.initPlace bytes)) reads in
-      let own : loader.LineLoads t address guest answer after =
-      loads-any t
-      (subst (λ (x : List ℕ). loader.LineLoads (writing.bare (t .boot) x) address guest answer after) same-init
-      (subst (λ (x : List ℕ). loader.LineLoads (writing.bare x init) address guest answer after) same-boot loads)) in
+      let sized = header-sized bytes reads e in
+      let low = sized .boots in
+      let high = sized .inits in
+      let gate : askedAll Open row ≡ askedAll Open (Lines.lineTests bytes ++ row) =
+      sym (asked-append Open (Lines.lineTests bytes) row ∙ ap (λ (g : Gate). askedAll g row) (sym (header-gate bytes reads) ∙ e)) in
+      let same-boot : take limit boot ≡ t .boot =
+      ap (take limit) (eb ∙ ap (λ (h : Header). take (h .boots) (drop Lines.bootPlace bytes)) reads)
+      ∙ clipped-text (le 8 bytes 0) (drop Lines.bootPlace bytes) (omega arith) in
+      let same-init : take limit init ≡ t .init =
+      ap (take limit) (ei ∙ ap (λ (h : Header). take (h .inits) (drop Lines.initPlace bytes)) reads)
+      ∙ clipped-text (le 8 bytes 8) (drop Lines.initPlace bytes) (omega arith) in
+      let own : lines.LineLoads (writing.bare (t .boot) (t .init)) address guest answer after =
+      subst (λ (x : List ℕ). lines.LineLoads (writing.bare (t .boot) x) address guest answer after) same-init
+      (subst (λ (x : List ℕ). lines.LineLoads (writing.bare x (take limit init)) address guest answer after) same-boot loads) in
       record {
-        answer =
-            er
-            ∙ ap loader.answerNumber (own .answer)
-            ∙ ap
-            (λ (x : Gate). Lines.gateNumber x (loader.answerNumber (loader.answerOf (loader.gateOf t (length guest) address)))) gate;
-        memory = own .written ∙ ap (λ (x : Gate). settled x guest (loader.guestAfter t address guest)) gate;
+        answer = er ∙ ap lines.lineNumber (own .answer) ∙ ap (λ (g : Gate). lines.lineNumber (loading.behindGate Refused g plan .answer)) gate;
+        memory = own .memory ∙ ap (λ (g : Gate). pour (loading.behindGate Refused g plan .stream) guest) gate;
       }

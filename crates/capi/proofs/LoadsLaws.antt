@@ -12,14 +12,17 @@ use Rattle.answers.specs.declared.Refusal.the-variants.{NoRoom}
 use Rattle.guest.specs.declared.Given.{Given}
 use Rattle.elf.specs.declared.Answer.{Answer}
 use Rattle.elf.specs.declared.ElfNote.{ElfNote}
-use Rattle.elf.specs.Load.{answerNumber, noteNumber, answerOf, LoadSays}
+use Rattle.guest.specs.Loading.{Plan, Loads}
+use Rattle.guest.specs.Room.{memoryOf}
+use Rattle.guest.specs.Stream.{pour}
+use Rattle.elf.specs.Load.{elfNumber, elfValues, noteNumber, noteValues, LoadSays}
 use Rattle.elf.specs.Notes.{publicNote}
-use Rattle.elf.specs.Pouring.{poured}
+use Rattle.elf.specs.Pouring as elf
 use Rattle.bzimage.specs.declared.Outcome.{Outcome}
-use Rattle.bzimage.specs.Answers as bzimage-answers
-use Rattle.bzimage.specs.Plan.{planOf, guestAfter, Loads}
+use Rattle.bzimage.specs.Answers.{bzImageNumber, bzImageValues}
+use Rattle.bzimage.specs.Plan as bzimage
 use Rattle.bzimage.specs.SetupHeader.{headerSize}
-use Rattle.capi.specs.Loads.{loadValues, noteValues, headerBytes, Tells, BzImageTells, ElfLoads, ElfNotes, BzImageLoads, bzImageSized}
+use Rattle.capi.specs.Loads.{headerBytes, Tells, BzImageTells, ElfLoads, ElfNotes, BzImageLoads, bzImageSized}
 
 -- the first of two where the test holds, and the second where it fails
 picks : {A : Type 0} {b : Bool} {a x : A} (y : A) → b ≡ true → a ≡ x → a ≡ pick b x y
@@ -36,22 +39,22 @@ module _ (image : List ℕ) (offset highmem : Given) (guest out : List ℕ) wher
   pub elf-unsized : {r : ℕ} → (length out ≡ 4 → ⊥) → r ≡ numberOf NoRoom → ElfLoads image offset highmem guest out r guest out
   elf-unsized other e =
       let f = ne-eqb (length out) 4 other in
-      let a = answerOf image (length guest) offset highmem in
+      let plan = elf.planOf image (memoryOf guest) offset highmem in
       record {
-        answer = passes (answerNumber a) f e;
-        memory = passes (poured image offset highmem guest) f refl;
-        told = passes (sets out 0 (loadValues a)) f refl;
+        answer = passes (elfNumber (plan .answer)) f e;
+        memory = passes (pour (plan .stream) guest) f refl;
+        told = passes (sets out 0 (elfValues (plan .answer))) f refl;
       }
 
   pub elf-sized : {o h : Given} {a : Answer} {r : ℕ} {after left : List ℕ} → length out ≡ 4 → o ≡ offset → h ≡ highmem → LoadSays image o h guest a after
-      → Tells (answerNumber a) (loadValues a) out r left → ElfLoads image offset highmem guest out r after left
+      → Tells (elfNumber a) (elfValues a) out r left → ElfLoads image offset highmem guest out r after left
   elf-sized {o} {h} {a} same eo eh says tells =
       let t = eq-eqb (length out) 4 same in
-      let is : a ≡ answerOf image (length guest) offset highmem = says .answer ∙ rw (eo, eh) in
+      let is : a ≡ elf.planOf image (memoryOf guest) offset highmem .answer = says .answer ∙ rw (eo, eh) in
       record {
-        answer = picks (numberOf NoRoom) t (tells .answer ∙ ap answerNumber is);
+        answer = picks (numberOf NoRoom) t (tells .answer ∙ ap elfNumber is);
         memory = picks guest t (says .memory ∙ rw (eo, eh));
-        told = picks out t (tells .told ∙ ap (λ (x : Answer). sets out 0 (loadValues x)) is);
+        told = picks out t (tells .told ∙ ap (λ (x : Answer). sets out 0 (elfValues x)) is);
       }
 
 -- ---- a note walk
@@ -80,12 +83,12 @@ module _ (image : List ℕ) (offset highmem : Given) (guest out header : List �
   unsized : {r : ℕ} → bzImageSized out header ≡ false → r ≡ numberOf NoRoom
       → BzImageLoads image offset highmem guest out header r guest out header
   unsized f e =
-      let plan = planOf image (length guest) offset highmem in
+      let plan = bzimage.planOf image (memoryOf guest) offset highmem in
       record {
-        answer = passes (bzimage-answers.answerNumber (plan .answer)) f e;
-        memory = passes (guestAfter image offset highmem guest) f refl;
-        told = passes (sets out 0 (bzimage-answers.answerValues (plan .answer))) f refl;
-        setup = passes (sets header 0 (headerBytes (plan .answer) (plan .«setup_header»))) f refl;
+        answer = passes (bzImageNumber (plan .answer .answer)) f e;
+        memory = passes (pour (plan .stream) guest) f refl;
+        told = passes (sets out 0 (bzImageValues (plan .answer .answer))) f refl;
+        setup = passes (sets header 0 (headerBytes (plan .answer .answer) (plan .answer .«setup_header»))) f refl;
       }
 
   pub bzimage-unsized-out : {r : ℕ} → (length out ≡ 2 → ⊥) → r ≡ numberOf NoRoom → BzImageLoads image offset highmem guest out header r guest out header
@@ -98,15 +101,15 @@ module _ (image : List ℕ) (offset highmem : Given) (guest out header : List �
   bzimage-unsized-header same other e = unsized (rw (eq-eqb (length out) 2 same, ne-eqb (length header) headerSize other)) e
 
   pub bzimage-sized : {o h : Given} {outcome : Outcome} {r : ℕ} {after left setup : List ℕ} → length out ≡ 2 → length header ≡ headerSize → o ≡ offset
-      → h ≡ highmem → Loads image o h guest outcome after → BzImageTells outcome out header r left setup
+      → h ≡ highmem → bzimage.KernelLoads image o h guest outcome after → BzImageTells outcome out header r left setup
       → BzImageLoads image offset highmem guest out header r after left setup
   unfolding bzImageSized
   bzimage-sized {o} {h} {outcome} same sameh eo eh loads tells =
       let t : bzImageSized out header ≡ true = rw (eq-eqb (length out) 2 same, eq-eqb (length header) headerSize sameh) in
-      let is : outcome ≡ planOf image (length guest) offset highmem = loads .outcome ∙ rw (eo, eh) in
+      let is : outcome ≡ bzimage.planOf image (memoryOf guest) offset highmem .answer = loads .answer ∙ rw (eo, eh) in
       record {
-        answer = picks (numberOf NoRoom) t (tells .answer ∙ ap (λ (x : Outcome). bzimage-answers.answerNumber (x .answer)) is);
-        memory = picks guest t (loads .written ∙ rw (eo, eh));
-        told = picks out t (tells .told ∙ ap (λ (x : Outcome). sets out 0 (bzimage-answers.answerValues (x .answer))) is);
+        answer = picks (numberOf NoRoom) t (tells .answer ∙ ap (λ (x : Outcome). bzImageNumber (x .answer)) is);
+        memory = picks guest t (loads .memory ∙ rw (eo, eh));
+        told = picks out t (tells .told ∙ ap (λ (x : Outcome). sets out 0 (bzImageValues (x .answer))) is);
         setup = picks header t (tells .setup ∙ ap (λ (x : Outcome). sets header 0 (headerBytes (x .answer) (x .«setup_header»))) is);
       }

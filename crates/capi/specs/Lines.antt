@@ -11,7 +11,7 @@ use Rattle.answers.specs.Catalogue.{numberOf}
 use Rattle.answers.specs.Tests.{Test, askedAll, AllHold}
 use Rattle.answers.specs.declared.Refusal.the-variants.{NoRoom}
 use Rattle.answers.specs.declared.Gate.{Gate}
-use Rattle.answers.specs.declared.Gate.the-variants.{Open, Shut}
+use Rattle.answers.specs.declared.Gate.the-variants.{Open}
 use Rattle.fields.specs.Numbers.{le, leBytes}
 use Rattle.cmdline.specs.declared.DeviceId.{DeviceId}
 use Rattle.cmdline.specs.declared.DeviceId.the-variants.{Nothing, Number}
@@ -22,7 +22,13 @@ use Rattle.cmdline.specs.Text.{Text}
 use Rattle.cmdline.specs.Insertion.{Plan, answerOf, callNumber, settled, withBoot, withInit}
 use Rattle.cmdline.specs.Making.{sizeTests}
 use Rattle.cmdline.specs.Writing.{writeTests, writtenOf, writtenNumber, writtenCount, writtenBytes, sameLine}
-use Rattle.loader.specs.Lines as loader
+use Rattle.guest.specs.declared.Memory.{Memory}
+use Rattle.guest.specs.Loading as loading
+use Rattle.guest.specs.Room.{memoryOf}
+use Rattle.guest.specs.Stream.{pour}
+use Rattle.loader.specs.declared.Answer as loader
+use Rattle.loader.specs.declared.Answer.the-variants as loader-answer
+use Rattle.loader.specs.Lines as lines
 use Rattle.capi.specs.declared.lines.Header.{Header}
 
 -- ---- the bytes of a line
@@ -182,15 +188,11 @@ pub record LinesCompare (a b out : List ℕ) (r : ℕ) (left : List ℕ) : Type 
 
 -- ---- loading
 
--- how the tests of the line end
-unfoldable pub lineGate : List ℕ → Gate
-lineGate bytes = askedAll Open (lineTests bytes)
-
--- the number of a call, by how the tests of the line end
-abbrev pub gateNumber : Gate → ℕ → ℕ
-gateNumber Open number = number
-gateNumber (Shut refusal) number = numberOf refusal
+-- the tests of the line, then the plan of loading it
+abbrev pub loadPlan : List ℕ → Memory → ℕ → loading.Plan loader.Answer
+loadPlan bytes m address =
+    loading.behindTests loader-answer.Refused (lineTests bytes ++ lines.tests (textIn bytes) m address) (lines.linePlan (textIn bytes) address)
 
 pub record LineLoadsFrom (bytes : List ℕ) (address : ℕ) (guest : List ℕ) (r : ℕ) (after : List ℕ) : Type 0 where
-  pub answer : r ≡ gateNumber (lineGate bytes) (loader.answerNumber (loader.answerOf (loader.gateOf (textIn bytes) (length guest) address)))
-  pub memory : after ≡ settled (lineGate bytes) guest (loader.guestAfter (textIn bytes) address guest)
+  pub answer : r ≡ lines.lineNumber (loadPlan bytes (memoryOf guest) address .answer)
+  pub memory : after ≡ pour (loadPlan bytes (memoryOf guest) address .stream) guest

@@ -11,20 +11,16 @@ use Rattle.answers.specs.Catalogue.{numberOf}
 use Rattle.answers.specs.declared.Refusal.the-variants.{NoRoom}
 use Rattle.guest.specs.declared.Given.{Given}
 use Rattle.guest.specs.declared.Given.the-variants.{Nothing, At}
-use Rattle.elf.specs.declared.PvhBootCapability.{PvhBootCapability}
-use Rattle.elf.specs.declared.PvhBootCapability.the-variants.{PvhEntryPresent, PvhEntryNotPresent, PvhEntryIgnored}
-use Rattle.elf.specs.declared.Answer as elf
-use Rattle.elf.specs.declared.Answer.the-variants as elf-answer
-use Rattle.elf.specs.declared.NoteAnswer.{NoteAnswer}
-use Rattle.elf.specs.declared.NoteAnswer.the-variants as note
-use Rattle.elf.specs.Load.{answerNumber, noteNumber, answerOf}
+use Rattle.guest.specs.Room.{memoryOf}
+use Rattle.guest.specs.Stream.{pour}
+use Rattle.elf.specs.Load.{elfNumber, elfValues, noteNumber, noteValues}
 use Rattle.elf.specs.Notes.{publicNote}
-use Rattle.elf.specs.Pouring.{poured}
-use Rattle.bzimage.specs.declared.Answer as bzimage
-use Rattle.bzimage.specs.declared.Answer.the-variants as bzimage-answer
+use Rattle.elf.specs.Pouring as elf
+use Rattle.bzimage.specs.declared.Answer.{Answer}
+use Rattle.bzimage.specs.declared.Answer.the-variants.{Loaded, Refused}
 use Rattle.bzimage.specs.declared.Outcome.{Outcome}
-use Rattle.bzimage.specs.Answers as bzimage-answers
-use Rattle.bzimage.specs.Plan.{planOf, guestAfter}
+use Rattle.bzimage.specs.Answers.{bzImageNumber, bzImageValues}
+use Rattle.bzimage.specs.Plan as bzimage
 use Rattle.bzimage.specs.SetupHeader.{headerSize}
 
 -- ---- options
@@ -42,33 +38,10 @@ highmemOf flags address = givenBy (flags / 2 % 2) address
 
 -- ---- values
 
--- PVH as a number: 0 where it is ignored, 1 where there is no entry, 2 where there is one
-unfoldable pub pvhCode : PvhBootCapability → ℕ
-pvhCode PvhEntryIgnored = 0
-pvhCode PvhEntryNotPresent = 1
-pvhCode (PvhEntryPresent address) = 2
-
--- its address, 0 where there is none
-unfoldable pub pvhAddress : PvhBootCapability → ℕ
-pvhAddress PvhEntryIgnored = 0
-pvhAddress PvhEntryNotPresent = 0
-pvhAddress (PvhEntryPresent address) = address .0
-
--- the values of an ELF load: load address, end, and PVH; a refusal has none
-unfoldable pub loadValues : elf.Answer → List ℕ
-loadValues (elf-answer.Loaded k) =
-    k .«kernel_load» .0 ∷ k .«kernel_end» .0 ∷ pvhCode (k .«pvh_boot_cap») ∷ pvhAddress (k .«pvh_boot_cap») ∷ []
-loadValues (elf-answer.Refused refusal) = []
-
--- of a note walk: PVH, and the headers that were read
-unfoldable pub noteValues : NoteAnswer → ℕ → List ℕ
-noteValues (note.Says said) headers = pvhCode said ∷ pvhAddress said ∷ headers ∷ []
-noteValues (note.Refused refusal) headers = []
-
 -- the bytes that a bzImage load leaves in a lent header
-unfoldable pub headerBytes : bzimage.Answer → List ℕ → List ℕ
-headerBytes (bzimage-answer.Loaded k) bytes = bytes
-headerBytes (bzimage-answer.Refused refusal) bytes = []
+unfoldable pub headerBytes : Answer → List ℕ → List ℕ
+headerBytes (Loaded k) bytes = bytes
+headerBytes (Refused refusal) bytes = []
 
 -- ---- what is told of an answer: its number; its values stand from the first place on, and a refusal leaves the list as it was
 
@@ -78,8 +51,8 @@ pub record Tells (number : ℕ) (values out : List ℕ) (r : ℕ) (left : List �
 
 -- the same of a bzImage load, and the setup header
 pub record BzImageTells (outcome : Outcome) (out header : List ℕ) (r : ℕ) (out-left header-left : List ℕ) : Type 0 where
-  pub answer : r ≡ bzimage-answers.answerNumber (outcome .answer)
-  pub told : out-left ≡ sets out 0 (bzimage-answers.answerValues (outcome .answer))
+  pub answer : r ≡ bzImageNumber (outcome .answer)
+  pub told : out-left ≡ sets out 0 (bzImageValues (outcome .answer))
   pub setup : header-left ≡ sets header 0 (headerBytes (outcome .answer) (outcome .«setup_header»))
 
 -- ---- the entry points, by whether what is lent has its size
@@ -94,9 +67,9 @@ leftWhere sized left was = pick sized left was
 
 -- an ELF load
 pub record ElfLoads (image : List ℕ) (offset highmem : Given) (guest out : List ℕ) (r : ℕ) (guest-left out-left : List ℕ) : Type 0 where
-  pub answer : r ≡ numberWhere (eqb (length out) 4) (answerNumber (answerOf image (length guest) offset highmem))
-  pub memory : guest-left ≡ leftWhere (eqb (length out) 4) (poured image offset highmem guest) guest
-  pub told : out-left ≡ leftWhere (eqb (length out) 4) (sets out 0 (loadValues (answerOf image (length guest) offset highmem))) out
+  pub answer : r ≡ numberWhere (eqb (length out) 4) (elfNumber (elf.planOf image (memoryOf guest) offset highmem .answer))
+  pub memory : guest-left ≡ leftWhere (eqb (length out) 4) (pour (elf.planOf image (memoryOf guest) offset highmem .stream) guest) guest
+  pub told : out-left ≡ leftWhere (eqb (length out) 4) (sets out 0 (elfValues (elf.planOf image (memoryOf guest) offset highmem .answer))) out
 
 -- a note walk
 pub record ElfNotes (image : List ℕ) (p-offset p-filesz : ℕ) (out : List ℕ) (r : ℕ) (left : List ℕ) : Type 0 where
@@ -114,10 +87,13 @@ bzImageSized out header = eqb (length out) 2 && eqb (length header) headerSize
 
 -- a bzImage load
 pub record BzImageLoads (image : List ℕ) (offset highmem : Given) (guest out header : List ℕ) (r : ℕ) (guest-left out-left header-left : List ℕ) : Type 0 where
-  pub answer : r ≡ numberWhere (bzImageSized out header) (bzimage-answers.answerNumber (planOf image (length guest) offset highmem .answer))
-  pub memory : guest-left ≡ leftWhere (bzImageSized out header) (guestAfter image offset highmem guest) guest
-  pub told : out-left ≡ leftWhere (bzImageSized out header) (sets out 0 (bzimage-answers.answerValues (planOf image (length guest) offset highmem .answer))) out
+  pub answer : r ≡ numberWhere (bzImageSized out header) (bzImageNumber (bzimage.planOf image (memoryOf guest) offset highmem .answer .answer))
+  pub memory : guest-left ≡ leftWhere (bzImageSized out header) (pour (bzimage.planOf image (memoryOf guest) offset highmem .stream) guest) guest
+  pub told : out-left ≡ leftWhere (bzImageSized out header) (sets out 0 (bzImageValues (bzimage.planOf image (memoryOf guest) offset highmem .answer .answer))) out
   pub setup :
       header-left
       ≡ leftWhere (bzImageSized out header)
-      (sets header 0 (headerBytes (planOf image (length guest) offset highmem .answer) (planOf image (length guest) offset highmem .«setup_header»))) header
+      (sets header 0
+      (headerBytes (bzimage.planOf image (memoryOf guest) offset highmem .answer .answer)
+      (bzimage.planOf image (memoryOf guest) offset highmem .answer .«setup_header»)))
+      header

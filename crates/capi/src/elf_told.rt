@@ -1,8 +1,8 @@
 // The answers of an ELF load and of a note walk, as numbers.
 ghost use mathlib.Core.Path.{_≡_};
 ghost use lib.ListN.{length};
-ghost use Rattle.elf.specs.Load.{answerNumber, noteNumber};
-ghost use Rattle.capi.specs.Loads.{pvhCode, pvhAddress, loadValues, noteValues, Tells};
+ghost use Rattle.elf.specs.Load.{pvhCode, pvhAddress, elfNumber, elfValues, noteNumber, noteValues};
+ghost use Rattle.capi.specs.Loads.{Tells};
 use elf::Answer;
 use elf::ElfNote;
 use elf::NoteAnswer;
@@ -31,7 +31,7 @@ fn pvh_address(said: PvhBootCapability) -> u64
 // The number of a load's answer; its values into `out`.
 pub(crate) fn load(out: &mut [u64], answer: Answer) -> u32
     requires { ⌜ length (now out) ≡ 4 ⌝ }
-    ensures { λ r. ⌜ Tells (answerNumber answer) (loadValues answer) (now (out .entry)) r (now (out .exit)) ⌝ }
+    ensures { λ r. ⌜ Tells (elfNumber answer) (elfValues answer) (now (out .entry)) r (now (out .exit)) ⌝ }
 {
     match answer {
         Answer::Loaded(kernel) => {

@@ -4,7 +4,7 @@ ghost use mathlib.Core.Path.{_≡_};
 ghost use lib.ListN.{length, take, drop, replicate};
 ghost use Rattle.answers.specs.Pick.{pick};
 ghost use Rattle.cmdline.specs.Writing.{writtenNumber, writtenCount};
-ghost use Rattle.loader.specs.Lines.{answerNumber};
+ghost use Rattle.loader.specs.Lines.{lineNumber};
 ghost use Rattle.capi.specs.Loads.{Tells};
 ghost use Rattle.capi.specs.Lines.{headerBy, withText, idBy, Told, Makes};
 use answers::Gate;
@@ -129,7 +129,7 @@ pub(crate) fn tell_written(count: &mut [u64], written: Written) -> u32
 
 // The number of what loading a line answers.
 pub(crate) fn load_number(answer: loader::Answer) -> u32
-    ensures { λ r. ⌜ r ≡ answerNumber answer ⌝ }
+    ensures { λ r. ⌜ r ≡ lineNumber answer ⌝ }
 {
     match answer {
         loader::Answer::Loaded => 0,

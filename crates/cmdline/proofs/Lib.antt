@@ -17,5 +17,4 @@ pub mod ZerosStay
 pub mod RefusedUnchanged
 pub mod DigitsReadBack
 pub mod EqualLines
-pub mod CasesHold
 pub mod Outcomes

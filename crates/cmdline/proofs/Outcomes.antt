@@ -32,6 +32,8 @@ use Rattle.cmdline.proofs.in_place.add_virtio_mmio_device.Kinds as in-p
 use Rattle.cmdline.proofs.in_place.add_virtio_mmio_device.Reads as in-place-add-virtio-mmio-device-reads
 use Rattle.cmdline.proofs.sizes.is_capacity.Kinds as sizes-is-capacity-kinds
 use Rattle.cmdline.proofs.sizes.is_capacity.Reads as sizes-is-capacity-reads
+use Rattle.cmdline.proofs.sizes.line_size.Kinds as line-size-kinds
+use Rattle.cmdline.proofs.sizes.line_size.Reads as line-size-reads
 use Rattle.cmdline.proofs.sizes.fits.Kinds as sizes-fits-kinds
 use Rattle.cmdline.proofs.sizes.fits.Reads as sizes-fits-reads
 use Rattle.cmdline.proofs.sizes.ask.Kinds as sizes-ask-kinds
@@ -113,3 +115,6 @@ writing-as-cstring-one κs a z z' ws ws' p q = (meet (p .answer) (q .answer), fi
 
 pub writing-same-line-one : OneOutcome 4 writing-same-line-kinds.ps writing-same-line-kinds.r writing-same-line-reads.Post
 writing-same-line-one κs a z z' ws ws' p q = (meet p q, refl)
+
+pub line-size-one : OneOutcome 0 line-size-kinds.ps line-size-kinds.r line-size-reads.Post
+line-size-one κs a z z' ws ws' p q = (meet p q, refl)

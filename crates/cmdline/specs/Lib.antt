@@ -12,4 +12,3 @@ pub mod ZeroPast
 pub mod Growing
 pub mod Keeping
 pub mod Calls
-pub mod Cases

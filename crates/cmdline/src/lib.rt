@@ -169,7 +169,14 @@ impl Cmdline {
         ensures { λ r. ⌜ r ≡ replyOf self (insert (textOf self) (now (key .entry)) (now (value .entry))) ⌝ }
     {
         let mut boot = self.boot;
-        let appended = in_place::insert(&mut boot, self.boots, self.inits, self.capacity, key, value);
+        let appended = in_place::insert(
+            &mut boot,
+            self.boots,
+            self.inits,
+            self.capacity,
+            key,
+            value,
+        );
         boot_reply(appended, boot, self)
     }
 
@@ -205,7 +212,13 @@ impl Cmdline {
         ensures { λ r. ⌜ r ≡ replyOf self (insertInitArgs (textOf self) (now (slug .entry))) ⌝ }
     {
         let mut init = self.init;
-        let appended = in_place::insert_init_args(&mut init, self.boots, self.inits, self.capacity, slug);
+        let appended = in_place::insert_init_args(
+            &mut init,
+            self.boots,
+            self.inits,
+            self.capacity,
+            slug,
+        );
         init_reply(appended, init, self)
     }
 

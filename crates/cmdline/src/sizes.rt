@@ -47,11 +47,7 @@ pub fn ask(gate: Gate, boots: usize, inits: usize, capacity: usize) -> Gate
     ensures { λ r. ⌜ r ≡ askedAll gate (sizeTests boots inits capacity) ⌝ }
 {
     let gate = answers::require(gate, is_capacity(capacity), Refusal::InvalidCapacity);
-    answers::require(
-        gate,
-        fits(capacity, boots, inits),
-        Refusal::InvalidCapacity,
-    )
+    answers::require(gate, fits(capacity, boots, inits), Refusal::InvalidCapacity)
 }
 
 // A sum, no more than the limit.
@@ -78,6 +74,13 @@ pub(crate) fn counted(boots: usize, inits: usize) -> usize
         return boots + 1;
     }
     boots + 1 + (4 + inits)
+}
+
+// The size of a line with its zero, by the lengths of its texts: a length above the limit counts as the limit.
+pub fn line_size(boots: usize, inits: usize) -> usize
+    ensures { λ r. ⌜ r ≡ sizeOf (min boots limit) (min inits limit) ⌝ }
+{
+    counted(copying::lesser(boots, LIMIT), copying::lesser(inits, LIMIT))
 }
 
 // What an insertion is charged before its own bytes: a space if there is boot text.

@@ -2,20 +2,21 @@
 use Prim.Native.Nat.{ℕ, _+_, _*_, _≤_, _<_}
 use mathlib.Core.Path.{_≡_, sym, _∙_, refl}
 use mathlib.Core.Bool.{Bool, true, false}
-use mathlib.Core.List.{List}
+use mathlib.Core.List.{List, _++_}
 use native.Mathlib.Omega.{arith}
 use borrow.Author.Tests.{leb-true, ne-eqb}
 use lib.Dec.{eqb}
 use lib.ListN.{length}
 use Rattle.answers.specs.Pick.{pick}
 use Rattle.answers.specs.Tests.{AllHold}
-use Rattle.answers.proofs.TestsLaws.{open-all}
-use Rattle.answers.specs.declared.Gate.the-variants.{Open}
+use Rattle.answers.proofs.TestsLaws.{hold-left, hold-right}
 use Rattle.fields.specs.Ranges.{liesWithin, top64}
 use Rattle.fields.proofs.RangesLaws.{within-sum, within-grows}
 use Rattle.guest.specs.Addresses.{amountOf}
+use Rattle.guest.specs.Lent.{lentTests}
 use Rattle.guest.specs.declared.Given.{Given}
-use Rattle.elf.specs.Header.{headerSize, programHeaderSize, e-entry, e-phoff, e-phnum, standWithin, tests, gateOf}
+use Rattle.guest.specs.declared.Memory.{Memory}
+use Rattle.elf.specs.Header.{headerSize, programHeaderSize, e-entry, e-phoff, e-phnum, standWithin, lengthTests, fileTests, entryTests, standTests, fieldTests, headerTests, tests}
 use Rattle.elf.specs.ProgramHeaders.{headerPlace, HeadersStand}
 
 -- n program headers within the image: each of them stands there
@@ -41,19 +42,25 @@ stand-grows len len' phoff n h = split (eqb n 0)
     split true e = refl
     split false e = within-grows len len' phoff (programHeaderSize * n) h e
 
-module _ (image : List ℕ) (size : ℕ) (offset highmem : Given) (opened : gateOf image size offset highmem ≡ Open) where
-  pub tests-hold : AllHold (tests image size offset highmem)
-  unfolding gateOf
-  tests-hold = open-all (tests image size offset highmem) opened
+module _ (image : List ℕ) (m : Memory) (offset highmem : Given) (hold : AllHold (tests image m offset highmem)) where
+  header-hold : AllHold (headerTests image offset highmem)
+  header-hold = hold-right (lentTests (length image) m) (headerTests image offset highmem) hold
+
+  -- the tests behind those of the file: of the entry point, and of the program headers
+  entry-hold : AllHold (entryTests image offset highmem ++ standTests image)
+  entry-hold =
+      hold-right (fileTests image) (entryTests image offset highmem ++ standTests image)
+      (hold-right (lengthTests image) (fieldTests image offset highmem) header-hold)
 
   -- the header stands in the image
-  pub open-length : headerSize ≤ length image
-  open-length = leb-true headerSize (length image) (tests-hold .1 .1 .0)
+  pub header-stands : headerSize ≤ length image
+  header-stands = leb-true headerSize (length image) (hold-left (lengthTests image) (fieldTests image offset highmem) header-hold .0)
 
   -- the load address is below 2^64
-  pub open-sum : amountOf offset + e-entry image ≤ top64
-  open-sum = within-sum top64 (amountOf offset) (e-entry image) (tests-hold .1 .1 .1 .1 .1 .1 .1 .1 .0)
+  pub load-fits : amountOf offset + e-entry image ≤ top64
+  load-fits =
+      within-sum top64 (amountOf offset) (e-entry image) (hold-left (entryTests image offset highmem) (standTests image) entry-hold .1 .0)
 
   -- every program header stands in the image
-  pub open-headers : HeadersStand image (e-phnum image)
-  open-headers = stand-all image (e-phnum image) (tests-hold .1 .1 .1 .1 .1 .1 .1 .1 .1 .0)
+  pub headers-stand : HeadersStand image (e-phnum image)
+  headers-stand = stand-all image (e-phnum image) (hold-right (entryTests image offset highmem) (standTests image) entry-hold .0)

@@ -7,7 +7,8 @@ pub mod Verdicts
 pub mod Refusals
 pub mod ByteRules
 pub mod HeaderCount
+pub mod NoteVerdicts
+pub mod NotesLengthened
 pub mod Lengthened
 pub mod MoreRoom
 pub mod Outcomes
-pub mod Cases

@@ -1,6 +1,6 @@
 -- Laws of the note walk.
-use Prim.Native.Nat.{ℕ, zero, suc, _+_, _≤_, _<_}
-use mathlib.Core.Path.{_≡_, refl, subst}
+use Prim.Native.Nat.{ℕ, zero, suc, _+_, _*_, _-_, _≤_, _<_}
+use mathlib.Core.Path.{_≡_, refl, sym, _∙_, subst}
 use mathlib.Core.Bool.{true, false}
 use mathlib.Core.List.{List, [], _∷_}
 use mathlib.Core.Logic.{⊎-elim}
@@ -15,10 +15,13 @@ use Rattle.answers.specs.declared.Refusal.{Refusal}
 use Rattle.answers.specs.declared.Refusal.the-variants.{ReadNoteHeader}
 use Rattle.fields.specs.Ranges.{liesWithin}
 use Rattle.guest.specs.declared.ImagePlace.{ImagePlace}
-use Rattle.elf.specs.Notes.{topSize, noteHeaderOf, noteHeaderSize, skipOf, turnAt, afterTurn, walkFrom, walkOf, withoutNote, saidOf, entryOf}
+use Rattle.reading.specs.Notes.{noteHeaderOf}
+use Rattle.reading.specs.declared.NoteHeader.{NoteHeader}
+use Rattle.elf.specs.Notes.{topSize, noteHeaderSize, skipOf, turnAt, afterTurn, walkFrom, walkOf, twelves, saidOf, entryOf}
+use Rattle.elf.specs.declared.PvhBootCapability.the-variants as pvh
 use Rattle.elf.specs.declared.NoteAnswer.{NoteAnswer}
+use Rattle.elf.specs.declared.NoteAnswer.the-variants as answer
 use Rattle.elf.specs.declared.ElfNote.{ElfNote}
-use Rattle.elf.specs.declared.notes.NoteHeader.{NoteHeader}
 use Rattle.elf.specs.declared.notes.Turn.{Turn}
 use Rattle.elf.specs.declared.notes.Turn.the-variants as turn
 use Rattle.elf.specs.declared.notes.Walk.{Walk}
@@ -72,6 +75,13 @@ module _ (image : List ℕ) (from size read headers : ℕ) where
   unfolding walkFrom pick
   walk-turn n counted em ec lt stands et = rw (em, ec, lt-ltb read size lt, stands, et)
 
+  -- the same where each note before it took twelve bytes or more: a walk that began with this many notes left goes on after it
+  pub walk-through : {whole : Walked} {t : Turn} → 12 * headers ≤ read → read < size → liesWithin (length image) from (read + noteHeaderSize) ≡ true
+      → turnAt image (from + read) ≡ t → walkFrom (twelves size - headers) image from size read headers ≡ whole
+      → afterTurn t (headers + 1) (λ k. walkFrom (twelves size - (headers + 1)) image from size (read + k) (headers + 1)) ≡ whole
+  walk-through few lt stands et rest =
+      sym (walk-turn (twelves size - (headers + 1)) (headers + 1) (omega arith) (omega arith) lt stands et) ∙ rest
+
   -- a note header that passes the image
   pub walk-short : {m : ℕ} (n : ℕ) → m ≡ suc n → read < size → liesWithin (length image) from (read + noteHeaderSize) ≡ false
       → walkFrom m image from size read headers ≡ record { walk = walk.Refused ReadNoteHeader; headers = headers }
@@ -86,12 +96,13 @@ module _ (image : List ℕ) (from size read headers : ℕ) where
 
 -- ---- what the walk says
 
--- where no note was found
-pub without : (image : List ℕ) (w : Walk) → OneOf (1 ∷ 2 ∷ []) (tagOf the-walk w) → withoutNote w ≡ saidOf image w
+-- where no note was found, and nothing refused
+pub not-found : (image : List ℕ) (w : Walk) → OneOf (1 ∷ 2 ∷ []) (tagOf the-walk w) → OneOf (0 ∷ 1 ∷ []) (tagOf the-walk w)
+    → answer.Says pvh.PvhEntryNotPresent ≡ saidOf image w
 unfolding saidOf
-without image (walk.Found place size) h = absurd (⊎-elim (λ e. omega arith) (λ e. omega arith) h)
-without image walk.NotFound h = refl
-without image (walk.Refused r) h = refl
+not-found image (walk.Found place size) h g = absurd (⊎-elim (λ e. omega arith) (λ e. omega arith) h)
+not-found image walk.NotFound h g = refl
+not-found image (walk.Refused r) h g = absurd (⊎-elim (λ e. omega arith) (λ e. omega arith) g)
 
 pub said-as : (image : List ℕ) (from : ImagePlace) (size : ℕ) {walked : Walked} {w : Walk} {said : NoteAnswer}
     → walked ≡ walkOf image from size → walked .walk ≡ w → said ≡ saidOf image w

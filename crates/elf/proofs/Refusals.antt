@@ -10,12 +10,14 @@ use Rattle.answers.specs.declared.Refusal.the-variants as refusal
 use Rattle.guest.specs.Addresses.{amountOf}
 use Rattle.guest.specs.declared.Given.{Given}
 use Rattle.guest.specs.declared.ImagePlace.{ImagePlace}
-use Rattle.elf.specs.Notes.{noteHeaderOf, skipOf, turnAt, afterTurn, walkFrom, twelves, walkOf, withoutNote, saidOf, entryOf}
+use Rattle.guest.specs.declared.Memory.{Memory}
+use Rattle.reading.specs.Notes.{noteHeaderOf}
+use Rattle.reading.specs.declared.NoteHeader.{NoteHeader}
+use Rattle.elf.specs.Notes.{skipOf, turnAt, afterTurn, walkFrom, twelves, walkOf, saidOf, entryOf}
 use Rattle.elf.specs.Survey.{segmentStep, saidStep, noteStep, stepOf}
 use Rattle.elf.specs.declared.PvhBootCapability.{PvhBootCapability}
 use Rattle.elf.specs.declared.NoteAnswer.{NoteAnswer}
 use Rattle.elf.specs.declared.NoteAnswer.the-variants as answer
-use Rattle.elf.specs.declared.notes.NoteHeader.{NoteHeader}
 use Rattle.elf.specs.declared.notes.Turn.{Turn}
 use Rattle.elf.specs.declared.notes.Turn.the-variants as turn
 use Rattle.elf.specs.declared.notes.Walk.{Walk}
@@ -75,7 +77,7 @@ walk-of (suc left) image from size read headers =
     (λ _. ends)
 
 said-of : (image : List ℕ) {w : Walk} → WalkOf w → SaidOf (saidOf image w)
-unfolding saidOf withoutNote
+unfolding saidOf
 said-of image finds = pick-with SaidOf _ (λ _. pick-with SaidOf _ (λ _. says) (λ _. refuses short)) (λ _. refuses small)
 said-of image ends = says
 said-of image (refuses r) = refuses r
@@ -100,9 +102,9 @@ said-step : {said : NoteAnswer} → SaidOf said → StepOf (saidStep said)
 said-step says = passes
 said-step (refuses r) = at-once (not-late r)
 
-segment-of : (imageLen size shift : ℕ) (h : ProgramHeader) → StepOf (segmentStep imageLen size shift h)
+segment-of : (imageLength : ℕ) (m : Memory) (shift : ℕ) (h : ProgramHeader) → StepOf (segmentStep imageLength m shift h)
 unfolding segmentStep
-segment-of imageLen size shift h =
+segment-of imageLength m shift h =
     pick-with StepOf _
     (λ _. pick-with StepOf _
     (λ _. pick-with StepOf _ (λ _. pick-with StepOf _ (λ _. passes) (λ _. after-writing)) (λ _. at-once image-or-room))
@@ -116,9 +118,9 @@ note-of : (image : List ℕ) (offset : Given) (h : ProgramHeader) → StepOf (no
 unfolding noteStep
 note-of image offset h = pick-with StepOf _ (λ _. passes) (λ _. said-step (entry-of image (h .«p_offset») (h .«p_filesz»)))
 
-pub step-of : (image : List ℕ) (size : ℕ) (offset : Given) (h : ProgramHeader) → StepOf (stepOf image size offset h)
+pub step-of : (image : List ℕ) (m : Memory) (offset : Given) (h : ProgramHeader) → StepOf (stepOf image m offset h)
 unfolding stepOf
-step-of image size offset h =
+step-of image m offset h =
     pick-with StepOf _
-    (λ _. pick-with StepOf _ (λ _. passes) (λ _. segment-of _ size (amountOf offset) h))
+    (λ _. pick-with StepOf _ (λ _. passes) (λ _. segment-of _ m (amountOf offset) h))
     (λ _. pick-with StepOf _ (λ _. note-of image offset h) (λ _. passes))

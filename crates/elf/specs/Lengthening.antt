@@ -1,8 +1,6 @@
 -- Which refusals more image bytes or more guest memory may lift.
 use Rattle.answers.specs.declared.Refusal.{Refusal}
 use Rattle.answers.specs.declared.Refusal.the-variants.{ReadElfHeader, ReadProgramHeader, ReadKernelImage, ReadNoteHeader}
-use Rattle.elf.specs.declared.Answer.{Answer}
-use Rattle.elf.specs.declared.Answer.the-variants.{Refused}
 
 -- bytes of the image may be missing
 pub data ForBytes : Refusal → Type 0 where
@@ -14,7 +12,3 @@ pub data ForBytes : Refusal → Type 0 where
 -- room in guest memory may be missing
 pub data ForRoom : Refusal → Type 0 where
   segment : ForRoom ReadKernelImage
-
--- an answer that refuses with one of these
-pub data RefusedFor (Lifts : Refusal → Type 0) : Answer → Type 0 where
-  refused-for : {r : Refusal} → Lifts r → RefusedFor Lifts (Refused r)

@@ -12,11 +12,12 @@ use Rattle.fields.specs.Rounding.{roundedUp}
 use Rattle.fields.specs.Tags.{tagAt}
 use Rattle.guest.specs.Sizes.{allowed}
 use Rattle.guest.specs.declared.ImagePlace.{ImagePlace}
+use Rattle.reading.specs.Notes.{noteHeaderOf}
+use Rattle.reading.specs.declared.NoteHeader.{NoteHeader}
 use Rattle.elf.specs.declared.PvhBootCapability.the-variants as pvh
 use Rattle.elf.specs.declared.NoteAnswer.{NoteAnswer}
 use Rattle.elf.specs.declared.NoteAnswer.the-variants as answer
 use Rattle.elf.specs.declared.ElfNote.{ElfNote}
-use Rattle.elf.specs.declared.notes.NoteHeader.{NoteHeader}
 use Rattle.elf.specs.declared.notes.Turn.{Turn}
 use Rattle.elf.specs.declared.notes.Turn.the-variants as turn
 use Rattle.elf.specs.declared.notes.Walk.{Walk}
@@ -26,10 +27,6 @@ use Rattle.elf.specs.declared.notes.Walked.{Walked}
 -- a note is twelve bytes of header, its name, its descriptor
 abbrev pub noteHeaderSize : ℕ
 noteHeaderSize = 12
-
--- the note header at a place: the sizes of name and descriptor, and the type
-unfoldable pub noteHeaderOf : List ℕ → ℕ → NoteHeader
-noteHeaderOf image p = record { «n_namesz» = le 4 image p; «n_descsz» = le 4 image (p + 4); «n_type» = le 4 image (p + 8) }
 
 -- the type of the note that holds the PVH entry, and its name: `Xen` and zero
 abbrev pub physEntry : ℕ
@@ -46,12 +43,16 @@ isWanted note = pick (eqb (note .«n_type») physEntry) (eqb (note .«n_namesz»
 abbrev pub topSize : ℕ
 topSize = 0xFFFFFFFC
 
--- a note that is not wanted: both sizes are tested, then it is passed over, name and descriptor rounded up to 4
+-- how far the next note is: header, name and descriptor, the latter two rounded up to 4
+abbrev pub noteLength : NoteHeader → ℕ
+noteLength note = noteHeaderSize + roundedUp (note .«n_namesz») + roundedUp (note .«n_descsz»)
+
+-- a note that is not wanted: both sizes are tested, then it is passed over
 unfoldable pub skipOf : NoteHeader → Turn
 skipOf note =
     pick (leb (note .«n_namesz») topSize)
     (pick (leb (note .«n_descsz») topSize)
-    (turn.Skip (noteHeaderSize + roundedUp (note .«n_namesz») + roundedUp (note .«n_descsz»)))
+    (turn.Skip (noteLength note))
     (turn.Refused refusal.Overflow))
     (turn.Refused refusal.Overflow)
 
@@ -88,12 +89,6 @@ twelves size = (size + 11) / 12
 unfoldable pub walkOf : List ℕ → ImagePlace → ℕ → Walked
 walkOf image from size = walkFrom (twelves size) image (from .0) size 0 0
 
--- what a walk that found no note says
-unfoldable pub withoutNote : Walk → NoteAnswer
-withoutNote (walk.Found place size) = answer.Says pvh.PvhEntryNotPresent
-withoutNote walk.NotFound = answer.Says pvh.PvhEntryNotPresent
-withoutNote (walk.Refused r) = answer.Refused r
-
 -- what a walk says: of a note found, the number of the first four bytes of its descriptor
 unfoldable pub saidOf : List ℕ → Walk → NoteAnswer
 saidOf image (walk.Found place size) =
@@ -102,8 +97,8 @@ saidOf image (walk.Found place size) =
     (answer.Says (pvh.PvhEntryPresent (record { 0 = le 4 image (place .0) })))
     (answer.Refused refusal.ReadNoteHeader))
     (answer.Refused refusal.InvalidPvhNote)
-saidOf image walk.NotFound = withoutNote walk.NotFound
-saidOf image (walk.Refused r) = withoutNote (walk.Refused r)
+saidOf image walk.NotFound = answer.Says pvh.PvhEntryNotPresent
+saidOf image (walk.Refused r) = answer.Refused r
 
 unfoldable pub entryOf : List ℕ → ImagePlace → ℕ → ElfNote
 entryOf image from size = record { answer = saidOf image (walkOf image from size .walk); headers = walkOf image from size .headers }

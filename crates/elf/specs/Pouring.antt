@@ -1,14 +1,20 @@
--- The stream of a load: the bytes of the segments that are written, in file order, each from its first byte.
+-- The plan of a load: its answer, and the bytes of the segments that are written, in file order, each from its first byte.
 use Prim.Native.Nat.{ℕ, zero, suc, _+_}
+use mathlib.Core.Path.{_≡_}
 use mathlib.Core.List.{List, [], _++_}
 use lib.Dec.{eqb}
-use lib.ListN.{length}
 use Rattle.answers.specs.Pick.{pick}
 use Rattle.guest.specs.Addresses.{amountOf}
-use Rattle.guest.specs.Stream.{Poke, streamAt, bytesAt, pour}
+use Rattle.guest.specs.Stream.{Poke, streamAt, bytesAt}
+use Rattle.guest.specs.Loading.{Plan, behindTests}
 use Rattle.guest.specs.declared.Given.{Given}
-use Rattle.elf.specs.ProgramHeaders.{headerOf}
-use Rattle.elf.specs.Survey.{planOf}
+use Rattle.guest.specs.declared.Memory.{Memory}
+use Rattle.elf.specs.Header.{tests}
+use Rattle.elf.specs.ProgramHeaders.{headerOf, HeadersStand}
+use Rattle.elf.specs.Survey.{surveyOf}
+use Rattle.elf.specs.declared.Answer.{Answer}
+use Rattle.elf.specs.declared.Answer.the-variants.{Refused}
+use Rattle.elf.specs.declared.survey.Surveyed.{Surveyed}
 use Rattle.elf.specs.declared.program_headers.ProgramHeader.{ProgramHeader}
 
 -- the file bytes of a loadable segment, at its address moved by shift
@@ -21,10 +27,16 @@ unfoldable pub streamFrom : ℕ → List ℕ → ℕ → ℕ → List Poke
 streamFrom zero image shift i = []
 streamFrom (suc n) image shift i = segmentStream image shift (headerOf image i) ++ streamFrom n image shift (suc i)
 
--- what a load writes into guest memory of this size
-unfoldable pub streamOf : List ℕ → ℕ → Given → Given → List Poke
-streamOf image size offset highmem = streamFrom (planOf image size offset highmem .written) image (amountOf offset) 0
+-- what a survey comes to: its answer, and the segments of the headers that are written
+abbrev pub surveyPlan : List ℕ → Given → Surveyed → Plan Answer
+surveyPlan image offset surveyed = record { answer = surveyed .answer; stream = streamFrom (surveyed .written) image (amountOf offset) 0 }
 
--- guest memory after a load
-abbrev pub poured : List ℕ → Given → Given → List ℕ → List ℕ
-poured image offset highmem guest = pour (streamOf image (length guest) offset highmem) guest
+-- the plan of a load: the tests before the program headers, then the headers
+abbrev pub planOf : List ℕ → Memory → Given → Given → Plan Answer
+planOf image m offset highmem = behindTests Refused (tests image m offset highmem) (surveyPlan image offset (surveyOf image m offset))
+
+-- what code knows of a plan: its answer, and of how many program headers, which stand in the image, the segments are written
+pub record Planned (image : List ℕ) (offset : Given) (plan : Plan Answer) (r : Surveyed) : Type 0 where
+  pub answer : r .answer ≡ plan .answer
+  pub stream : streamFrom (r .written) image (amountOf offset) 0 ≡ plan .stream
+  pub stand : HeadersStand image (r .written)

@@ -1,19 +1,17 @@
--- The plan of a load: the answer, and of how many program headers the segments are written. It is a function of the image, the size
--- of guest memory and the options, and never looks at what guest memory holds.
+-- The survey of the program headers, one after the other: the answer, and of how many of them the segments are written.
 use Prim.Native.Nat.{ℕ, zero, suc, _+_, max}
 use mathlib.Core.List.{List}
 use lib.Dec.{eqb}
 use lib.ListN.{length}
 use Rattle.answers.specs.Pick.{pick}
 use Rattle.answers.specs.declared.Refusal.the-variants as refusal
-use Rattle.answers.specs.declared.Gate.{Gate}
-use Rattle.answers.specs.declared.Gate.the-variants.{Open, Shut}
 use Rattle.fields.specs.Ranges.{liesWithin, fits64}
 use Rattle.guest.specs.Addresses.{amountOf, isGiven}
 use Rattle.guest.specs.Room.{room}
 use Rattle.guest.specs.declared.Given.{Given}
 use Rattle.guest.specs.declared.GuestAddress.{GuestAddress}
-use Rattle.elf.specs.Header.{e-entry, e-phnum, gateOf}
+use Rattle.guest.specs.declared.Memory.{Memory}
+use Rattle.elf.specs.Header.{e-entry, e-phnum}
 use Rattle.elf.specs.ProgramHeaders.{headerOf}
 use Rattle.elf.specs.Notes.{entryOf}
 use Rattle.elf.specs.declared.PvhBootCapability.the-variants as pvh
@@ -26,15 +24,15 @@ use Rattle.elf.specs.declared.survey.Effect.{Effect}
 use Rattle.elf.specs.declared.survey.Effect.the-variants as effect
 use Rattle.elf.specs.declared.survey.Step.{Step}
 use Rattle.elf.specs.declared.survey.Step.the-variants.{Pass, Stop, StopWritten}
-use Rattle.elf.specs.declared.survey.Plan.{Plan}
+use Rattle.elf.specs.declared.survey.Surveyed.{Surveyed}
 
 -- a loadable segment with file bytes, moved by shift: its address, its bytes in the image, their room in guest memory, its end
-unfoldable pub segmentStep : ℕ → ℕ → ℕ → ProgramHeader → Step
-segmentStep imageLen size shift h =
+unfoldable pub segmentStep : ℕ → Memory → ℕ → ProgramHeader → Step
+segmentStep imageLength m shift h =
     let at = shift + h .«p_paddr» .0 in
     pick (fits64 shift (h .«p_paddr» .0))
-    (pick (liesWithin imageLen (h .«p_offset» .0) (h .«p_filesz»))
-    (pick (room size at (h .«p_filesz»))
+    (pick (liesWithin imageLength (h .«p_offset» .0) (h .«p_filesz»))
+    (pick (room m at (h .«p_filesz»))
     (pick (fits64 at (h .«p_memsz»)) (Pass (effect.EndsAt (record { 0 = at + h .«p_memsz» }))) (StopWritten refusal.MemoryOverflow))
     (Stop refusal.ReadKernelImage))
     (Stop refusal.ReadKernelImage))
@@ -50,10 +48,10 @@ unfoldable pub noteStep : List ℕ → Given → ProgramHeader → Step
 noteStep image offset h = pick (isGiven offset) (Pass (effect.Pvh pvh.PvhEntryIgnored)) (saidStep (entryOf image (h .«p_offset») (h .«p_filesz») .answer))
 
 -- any program header, by its type: 1 is loadable, 4 has notes, others are skipped, as is a loadable one without file bytes
-unfoldable pub stepOf : List ℕ → ℕ → Given → ProgramHeader → Step
-stepOf image size offset h =
+unfoldable pub stepOf : List ℕ → Memory → Given → ProgramHeader → Step
+stepOf image m offset h =
     pick (eqb (h .«p_type») 1)
-    (pick (eqb (h .«p_filesz») 0) (Pass effect.Nothing) (segmentStep (length image) size (amountOf offset) h))
+    (pick (eqb (h .«p_filesz») 0) (Pass effect.Nothing) (segmentStep (length image) m (amountOf offset) h))
     (pick (eqb (h .«p_type») 4) (noteStep image offset h) (Pass effect.Nothing))
 
 -- the result after one more program header: the end is the greatest so far, and the last note header decides
@@ -71,26 +69,21 @@ abbrev pub blank : GuestAddress → KernelLoaderResult
 blank load = record { «kernel_load» = load; «kernel_end» = record { 0 = 0 }; «pvh_boot_cap» = pvh.PvhEntryIgnored }
 
 -- after the step of program header i: `more` goes on
-abbrev pub afterStep : Step → ℕ → (Effect → Plan) → Plan
+abbrev pub afterStep : Step → ℕ → (Effect → Surveyed) → Surveyed
 afterStep (Pass e) i more = more e
 afterStep (Stop r) i more = record { answer = Refused r; written = i }
 afterStep (StopWritten r) i more = record { answer = Refused r; written = suc i }
 
 -- n program headers from header i on
-unfoldable pub surveyFrom : ℕ → List ℕ → ℕ → Given → ℕ → KernelLoaderResult → Plan
-surveyFrom zero image size offset i result = record { answer = Loaded result; written = i }
-surveyFrom (suc n) image size offset i result =
-    afterStep (stepOf image size offset (headerOf image i)) i (λ e. surveyFrom n image size offset (suc i) (advanced result e))
-
--- after the tests before the program headers
-abbrev pub afterGate : Gate → Plan → Plan
-afterGate Open plan = plan
-afterGate (Shut r) plan = record { answer = Refused r; written = 0 }
+unfoldable pub surveyFrom : ℕ → List ℕ → Memory → Given → ℕ → KernelLoaderResult → Surveyed
+surveyFrom zero image m offset i result = record { answer = Loaded result; written = i }
+surveyFrom (suc n) image m offset i result =
+    afterStep (stepOf image m offset (headerOf image i)) i (λ e. surveyFrom n image m offset (suc i) (advanced result e))
 
 -- the load address: the entry point, plus the offset if given
 abbrev pub loadAddress : List ℕ → Given → GuestAddress
 loadAddress image offset = record { 0 = amountOf offset + e-entry image }
 
-unfoldable pub planOf : List ℕ → ℕ → Given → Given → Plan
-planOf image size offset highmem =
-    afterGate (gateOf image size offset highmem) (surveyFrom (e-phnum image) image size offset 0 (blank (loadAddress image offset)))
+-- all program headers
+abbrev pub surveyOf : List ℕ → Memory → Given → Surveyed
+surveyOf image m offset = surveyFrom (e-phnum image) image m offset 0 (blank (loadAddress image offset))

@@ -11,15 +11,18 @@
 // The ELF header: the tests before the program headers.
 ghost use mathlib.Core.Path.{_≡_};
 ghost use Prim.Native.Nat.{_<_};
-ghost use Rattle.elf.specs.Header.{standWithin, gateOf};
+ghost use Rattle.answers.specs.Tests.{askedAll};
+ghost use Rattle.answers.specs.declared.Gate.the-variants.{Open};
+ghost use Rattle.elf.specs.Header.{standWithin, tests};
 use answers::Gate;
 use answers::Refusal;
 use fields::numbers;
 use fields::ranges;
 use fields::tags;
 use guest::Given;
+use guest::Memory;
 use guest::addresses;
-use guest::sizes;
+use guest::lent;
 
 // Do n program headers from a place lie within the image? Where there are none, the place is not asked.
 fn stand_within(len: u64, e_phoff: u64, n: u64) -> bool
@@ -33,16 +36,15 @@ fn stand_within(len: u64, e_phoff: u64, n: u64) -> bool
 }
 
 // The tests before the program headers, in their order. Every reader answers on every input, so no test guards another.
-pub fn validate_header(image: &[u8], guest_len: u64, offset: Given, highmem: Given) -> Gate
-    ensures { λ r. ⌜ r ≡ gateOf (now (image .entry)) «guest_len» offset highmem ⌝ }
+pub(crate) fn validate_header(image: &[u8], memory: Memory, offset: Given, highmem: Given) -> Gate
+    ensures { λ r. ⌜ r ≡ askedAll Open (tests (now (image .entry)) memory offset highmem) ⌝ }
 {
     let len = image.len() as u64;
     let e_entry = numbers::read_u64(image, 24);
     let e_phoff = numbers::read_u64(image, 32);
     let e_phentsize = numbers::read_u16(image, 54);
     let e_phnum = numbers::read_u16(image, 56);
-    let gate = answers::require(Gate::Open, sizes::is_allowed(len), Refusal::SliceTooLong);
-    let gate = answers::require(gate, sizes::is_allowed(guest_len), Refusal::SliceTooLong);
+    let gate = lent::ask(len, memory);
     let gate = answers::require(gate, 64 <= len, Refusal::ReadElfHeader);
     let gate = answers::require(
         gate,

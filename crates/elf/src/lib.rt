@@ -8,8 +8,8 @@
 //
 // SPDX-License-Identifier: Apache-2.0 AND BSD-3-Clause
 
-// Loading an ELF kernel. A load is a plan, made of the image, the size of guest memory and the options alone, and a pouring: the
-// segments of the program headers that the plan lets through, in file order.
+// Loading an ELF kernel. A load is a plan, made of the image, the memory and the options alone, and a pouring: the segments of the
+// program headers that the plan lets through, in file order.
 ghost use mathlib.Core.Path.{_≡_};
 ghost use Rattle.elf.specs.Load.{LoadSays};
 ghost use Rattle.elf.specs.Notes.{publicNote};
@@ -17,6 +17,7 @@ use answers::Refusal;
 use guest::Given;
 use guest::GuestAddress;
 use guest::ImagePlace;
+use guest::Memory;
 use guest::addresses;
 use guest::sizes;
 
@@ -62,7 +63,10 @@ pub struct ElfNote {
 pub fn load(guest: &mut [u8], image: &[u8], kernel_offset: Given, highmem_start: Given) -> Answer
     ensures { λ r. ⌜ LoadSays (now (image .entry)) «kernel_offset» «highmem_start» (now (guest .entry)) r (now (guest .exit)) ⌝ }
 {
-    let plan = survey::plan_load(image, guest.len() as u64, kernel_offset, highmem_start);
+    let memory = Memory {
+        size: guest.len() as u64,
+    };
+    let plan = survey::plan_load(image, memory, kernel_offset, highmem_start);
     pouring::pour_segments(guest, image, addresses::amount(kernel_offset), plan.written);
     plan.answer
 }

@@ -12,7 +12,7 @@
 ghost use mathlib.Core.Path.{_≡_};
 ghost use Prim.Native.Nat.{_+_, _<_, _≤_};
 ghost use lib.ListN.{length};
-ghost use Rattle.elf.specs.Notes.{noteHeaderOf, isWanted, skipOf, turnAt, walkOf, withoutNote, entryOf, toldOf};
+ghost use Rattle.elf.specs.Notes.{isWanted, skipOf, turnAt, walkOf, entryOf, toldOf};
 use crate::ElfNote;
 use crate::NoteAnswer;
 use crate::PvhBootCapability;
@@ -23,13 +23,7 @@ use fields::rounding;
 use fields::tags;
 use guest::GuestAddress;
 use guest::ImagePlace;
-
-// The twelve bytes before a note's name.
-pub struct NoteHeader {
-    pub n_namesz: u32,
-    pub n_descsz: u32,
-    pub n_type: u32,
-}
+use reading::NoteHeader;
 
 // What one note says to the walk: its descriptor is wanted, or the next note is so many bytes further.
 pub enum Turn {
@@ -50,18 +44,6 @@ pub struct Walked {
     pub headers: u64,
 }
 
-// The note header at a place, read by the reader that keeps the image and its place together.
-fn read_note_header(image: &[u8], at: u64) -> NoteHeader
-    ensures { λ r. ⌜ r ≡ noteHeaderOf (now (image .entry)) at ⌝ }
-{
-    let note = reading::notes::read_note_header(image, ImagePlace(at));
-    NoteHeader {
-        n_namesz: note.namesz as u32,
-        n_descsz: note.descsz as u32,
-        n_type: note.kind as u32,
-    }
-}
-
 // A note that is not wanted: both its sizes are tested, then it is passed over.
 fn skip(note: NoteHeader) -> Turn
     ensures { λ r. ⌜ r ≡ skipOf note ⌝ }
@@ -72,8 +54,8 @@ fn skip(note: NoteHeader) -> Turn
     if 0xFFFF_FFFC < note.n_descsz {
         return Turn::Refused(Refusal::Overflow);
     }
-    let name = rounding::align_up(note.n_namesz);
-    let desc = rounding::align_up(note.n_descsz);
+    let name = rounding::align_up(note.n_namesz as u32);
+    let desc = rounding::align_up(note.n_descsz as u32);
     Turn::Skip(12 + name + desc)
 }
 
@@ -92,7 +74,7 @@ fn note_at(image: &[u8], at: u64) -> Turn
     requires { ⌜ at + 12 ≤ length (now image) ⌝ }
     ensures { λ r. ⌜ r ≡ turnAt (now (image .entry)) at ⌝ }
 {
-    let note = read_note_header(image, at);
+    let note = reading::notes::read_note_header(image, ImagePlace(at));
     if !is_wanted(note) {
         return skip(note);
     }
@@ -102,7 +84,7 @@ fn note_at(image: &[u8], at: u64) -> Turn
     if !tags::is_tag(image, at + 12, b"Xen\0") {
         return skip(note);
     }
-    Turn::Found(ImagePlace(at + 16), note.n_descsz as u64)
+    Turn::Found(ImagePlace(at + 16), note.n_descsz)
 }
 
 // Note after note, from p_offset on, while fewer than p_filesz bytes are read.
@@ -146,27 +128,22 @@ fn walk_notes(image: &[u8], p_offset: ImagePlace, p_filesz: u64) -> Walked
     }
 }
 
-// What a walk that found no note says.
-fn without_note(walk: Walk) -> NoteAnswer
-    ensures { λ r. ⌜ r ≡ withoutNote walk ⌝ }
-{
-    match walk {
-        Walk::Refused(r) => NoteAnswer::Refused(r),
-        Walk::NotFound => NoteAnswer::Says(PvhBootCapability::PvhEntryNotPresent),
-        Walk::Found(_, _) => NoteAnswer::Says(PvhBootCapability::PvhEntryNotPresent),
-    }
-}
-
 // The PVH entry that the notes give, and the headers read, whatever the answer is.
-pub fn entry(image: &[u8], p_offset: ImagePlace, p_filesz: u64) -> ElfNote
+pub(crate) fn entry(image: &[u8], p_offset: ImagePlace, p_filesz: u64) -> ElfNote
     ensures { λ r. ⌜ r ≡ entryOf (now (image .entry)) «p_offset» «p_filesz» ⌝ }
 {
     let walked = walk_notes(image, p_offset, p_filesz);
     let answer = walked.walk;
     let headers = walked.headers;
     let Walk::Found(place, size) = answer else {
+        let Walk::Refused(r) = answer else {
+            return ElfNote {
+                answer: NoteAnswer::Says(PvhBootCapability::PvhEntryNotPresent),
+                headers: headers,
+            };
+        };
         return ElfNote {
-            answer: without_note(answer),
+            answer: NoteAnswer::Refused(r),
             headers: headers,
         };
     };
@@ -191,7 +168,7 @@ pub fn entry(image: &[u8], p_offset: ImagePlace, p_filesz: u64) -> ElfNote
 }
 
 // A refusal is told alone: no headers beside it.
-pub fn told(note: ElfNote) -> ElfNote
+pub(crate) fn told(note: ElfNote) -> ElfNote
     ensures { λ r. ⌜ r ≡ toldOf note ⌝ }
 {
     let answer = note.answer;

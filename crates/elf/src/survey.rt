@@ -12,7 +12,8 @@
 ghost use mathlib.Core.Path.{_≡_};
 ghost use Prim.Native.Nat.{max};
 ghost use Rattle.elf.specs.ProgramHeaders.{HeadersStand};
-ghost use Rattle.elf.specs.Survey.{segmentStep, noteStep, stepOf, advanced, blank, surveyFrom, planOf};
+ghost use Rattle.elf.specs.Survey.{segmentStep, noteStep, stepOf, advanced, blank, surveyFrom};
+ghost use Rattle.elf.specs.Pouring.{planOf, Planned};
 use crate::Answer;
 use crate::KernelLoaderResult;
 use crate::NoteAnswer;
@@ -27,6 +28,7 @@ use fields::numbers;
 use fields::ranges;
 use guest::Given;
 use guest::GuestAddress;
+use guest::Memory;
 use guest::addresses;
 use guest::room;
 
@@ -45,14 +47,14 @@ pub enum Step {
 }
 
 // The answer, and of how many program headers the segments are written.
-pub struct Plan {
+pub struct Surveyed {
     pub answer: Answer,
     pub written: u64,
 }
 
 // A loadable segment with file bytes.
-fn segment_step(image_len: u64, guest_len: u64, shift: u64, h: ProgramHeader) -> Step
-    ensures { λ r. ⌜ r ≡ segmentStep «image_len» «guest_len» shift h ⌝ }
+fn segment_step(image_len: u64, memory: Memory, shift: u64, h: ProgramHeader) -> Step
+    ensures { λ r. ⌜ r ≡ segmentStep «image_len» memory shift h ⌝ }
 {
     let p_paddr = h.p_paddr.0;
     if !ranges::sum_fits(shift, p_paddr) {
@@ -62,7 +64,7 @@ fn segment_step(image_len: u64, guest_len: u64, shift: u64, h: ProgramHeader) ->
     if !ranges::within(image_len, h.p_offset.0, h.p_filesz) {
         return Step::Stop(Refusal::ReadKernelImage);
     }
-    if !room::has_room(guest_len, GuestAddress(at), h.p_filesz) {
+    if !room::has_room(memory, GuestAddress(at), h.p_filesz) {
         return Step::Stop(Refusal::ReadKernelImage);
     }
     let p_memsz = h.p_memsz;
@@ -89,15 +91,15 @@ fn note_step(image: &[u8], offset: Given, h: ProgramHeader) -> Step
 }
 
 // Any program header.
-fn examine(image: &[u8], guest_len: u64, offset: Given, h: ProgramHeader) -> Step
-    ensures { λ r. ⌜ r ≡ stepOf (now (image .entry)) «guest_len» offset h ⌝ }
+fn examine(image: &[u8], memory: Memory, offset: Given, h: ProgramHeader) -> Step
+    ensures { λ r. ⌜ r ≡ stepOf (now (image .entry)) memory offset h ⌝ }
 {
     let p_type = h.p_type;
     if p_type == 1 {
         if h.p_filesz == 0 {
             return Step::Pass(Effect::Nothing);
         }
-        return segment_step(image.len() as u64, guest_len, addresses::amount(offset), h);
+        return segment_step(image.len() as u64, memory, addresses::amount(offset), h);
     }
     if p_type == 4 {
         return note_step(image, offset, h);
@@ -134,9 +136,9 @@ fn advance(result: KernelLoaderResult, effect: Effect) -> KernelLoaderResult
 }
 
 // The n program headers, which stand in the image.
-fn survey(image: &[u8], guest_len: u64, offset: Given, load: GuestAddress, n: u64) -> Plan
+fn survey(image: &[u8], memory: Memory, offset: Given, load: GuestAddress, n: u64) -> Surveyed
     requires { ⌜ HeadersStand (now image) n ⌝ }
-    ensures { λ r. ⌜ r ≡ surveyFrom n (now (image .entry)) «guest_len» offset 0 (blank load) ⌝ }
+    ensures { λ r. ⌜ r ≡ surveyFrom n (now (image .entry)) memory offset 0 (blank load) ⌝ }
 {
     let mut result = KernelLoaderResult {
         kernel_load: load,
@@ -146,19 +148,19 @@ fn survey(image: &[u8], guest_len: u64, offset: Given, load: GuestAddress, n: u6
     let mut i: u64 = 0;
     while i < n {
         let h = program_headers::read_header(image, i);
-        let step = examine(image, guest_len, offset, h);
+        let step = examine(image, memory, offset, h);
         match step {
             Step::Pass(effect) => {
                 result = advance(result, effect);
             }
             Step::Stop(r) => {
-                return Plan {
+                return Surveyed {
                     answer: Answer::Refused(r),
                     written: i,
                 };
             }
             Step::StopWritten(r) => {
-                return Plan {
+                return Surveyed {
                     answer: Answer::Refused(r),
                     written: i + 1,
                 };
@@ -166,26 +168,26 @@ fn survey(image: &[u8], guest_len: u64, offset: Given, load: GuestAddress, n: u6
         }
         i += 1;
     }
-    Plan {
+    Surveyed {
         answer: Answer::Loaded(result),
         written: n,
     }
 }
 
-// What a load answers, and of how many program headers it writes the segments.
-pub fn plan_load(image: &[u8], guest_len: u64, offset: Given, highmem: Given) -> Plan
-    ensures { λ r. ⌜ r ≡ planOf (now (image .entry)) «guest_len» offset highmem ⌝ }
+// The plan of a load: what it answers, and of how many program headers it writes the segments.
+pub(crate) fn plan_load(image: &[u8], memory: Memory, offset: Given, highmem: Given) -> Surveyed
+    ensures { λ r. ⌜ Planned (now (image .entry)) offset (planOf (now (image .entry)) memory offset highmem) r ⌝ }
 {
-    let gate = header::validate_header(image, guest_len, offset, highmem);
+    let gate = header::validate_header(image, memory, offset, highmem);
     match gate {
-        Gate::Shut(r) => Plan {
+        Gate::Shut(r) => Surveyed {
             answer: Answer::Refused(r),
             written: 0,
         },
         Gate::Open => {
             let load = addresses::amount(offset) + numbers::read_u64(image, 24);
             let e_phnum = numbers::read_u16(image, 56);
-            survey(image, guest_len, offset, GuestAddress(load), e_phnum)
+            survey(image, memory, offset, GuestAddress(load), e_phnum)
         }
     }
 }

@@ -37,7 +37,7 @@ pub sets-append : (xs ys l : List ℕ) (p q : ℕ) → q ≡ p + length xs → s
 sets-append [] ys l p q e = let same : p ≡ q = omega arith in ap (λ (k : ℕ). sets l k ys) same
 sets-append (x ∷ xs) ys l p q e = sets-append xs ys (set l p x) (suc p) q (omega arith)
 
--- stores above a place, and stores that end below it, keep its byte
+-- stores above a place, stores that end below it, and so all stores elsewhere, keep its byte
 pub sets-below : (vs l : List ℕ) (i p : ℕ) → p < i → getD (sets l i vs) p 0 ≡ getD l p 0
 sets-below [] l i p h = refl
 sets-below (v ∷ vs) l i p h = sets-below vs (set l i v) (suc i) p (omega arith) ∙ getD-set-other l i p v 0 (λ e. absurd (omega arith))
@@ -45,6 +45,14 @@ sets-below (v ∷ vs) l i p h = sets-below vs (set l i v) (suc i) p (omega arith
 pub sets-above : (vs l : List ℕ) (i p : ℕ) → i + length vs ≤ p → getD (sets l i vs) p 0 ≡ getD l p 0
 sets-above [] l i p h = refl
 sets-above (v ∷ vs) l i p h = sets-above vs (set l i v) (suc i) p (omega arith) ∙ getD-set-other l i p v 0 (λ e. absurd (omega arith))
+
+pub sets-outside : (vs l : List ℕ) (i p : ℕ) → (i ≤ p → p < i + length vs → ⊥) → getD (sets l i vs) p 0 ≡ getD l p 0
+sets-outside vs l i p out = split (decLe i p) (decLe (i + length vs) p)
+  where
+    split : Dec (i ≤ p) → Dec (i + length vs ≤ p) → getD (sets l i vs) p 0 ≡ getD l p 0
+    split (no below) above = sets-below vs l i p (omega arith)
+    split (yes low) (yes above) = sets-above vs l i p above
+    split (yes low) (no high) = absurd (out low (omega arith))
 
 -- a run of no stores
 pub sets-none : (vs l : List ℕ) (i : ℕ) → length vs ≡ 0 → sets l i vs ≡ l

@@ -1,5 +1,5 @@
 pub mod CopyingLaws
-pub mod BytesAtLaws
+pub mod HasBytesLaws
 pub mod NumbersLaws
 pub mod TagsLaws
 pub mod RangesLaws

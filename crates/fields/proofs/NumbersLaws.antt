@@ -4,12 +4,13 @@ use mathlib.Core.Path.{_≡_, refl, ap, sym, _∙_, subst⁻¹, subst₂}
 use mathlib.Core.List.{List, _++_}
 use native.Mathlib.Omega.{arith}
 use native.Mathlib.Decide.{decLe}
-use native.Mathlib.Nat.{pow-suc, pow-le-pow-right, lt-of-lt-of-le}
+use native.Mathlib.Nat.{pow-suc, one-le-pow, pow-le-pow-right, lt-of-lt-of-le, mod-one, mod-eq-of-lt}
+use lib.Arith.{mod-mul}
 use lib.ListN.{length, getD, set, List·getD-append, List·getD-eq-default}
 use lib.Seq.{sets}
-use Rattle.fields.specs.Numbers.{le, ReadAs, leBytes, BytesAt, a-byte}
+use Rattle.fields.specs.Numbers.{le, ReadAs, leBytes, HasBytes, a-byte}
 use Rattle.fields.proofs.CopyingLaws.{sets-out, sets-none}
-use Rattle.fields.proofs.BytesAtLaws.{stored-at}
+use Rattle.fields.proofs.HasBytesLaws.{stored-at}
 
 -- a number of one byte is the byte
 pub le-one : (s : List ℕ) (p : ℕ) → le 1 s p ≡ getD s p 0
@@ -72,14 +73,18 @@ unfolding leBytes
 length-le-bytes zero v = refl
 length-le-bytes (suc n) v = ap suc (length-le-bytes n (v / 256))
 
--- a number reads back from its bytes
-pub le-bytes : (n v : ℕ) (s : List ℕ) (p : ℕ) → v < 256 ^ n → BytesAt s p (leBytes n v) → le n s p ≡ v
+-- from its n low bytes a number reads back as far as they hold it
+pub le-low : (n v : ℕ) (s : List ℕ) (p : ℕ) → HasBytes s p (leBytes n v) → le n s p ≡ v % 256 ^ n
 unfolding le leBytes
-le-bytes zero v s p h e = omega arith
-le-bytes (suc n) v s p h (a-byte b rest) =
-    let small : v < 256 ^ n * 256 = rw (sym (pow-suc 256 n)) h in
-    let more = le-bytes n (v / 256) s (suc p) (omega arith) rest in
-    omega arith
+le-low zero v s p here = sym (mod-one v)
+le-low (suc n) v s p (a-byte b rest) =
+    let low = le-low n (v / 256) s (suc p) rest in
+    let parts = mod-mul v {m = 256 ^ n} {c = 256} (one-le-pow n 256 (omega arith)) (omega arith) in
+    rw (pow-suc 256 n) (omega arith)
+
+-- and whole where it fits
+pub le-bytes : (n v : ℕ) (s : List ℕ) (p : ℕ) → v < 256 ^ n → HasBytes s p (leBytes n v) → le n s p ≡ v
+le-bytes n v s p h here = le-low n v s p here ∙ mod-eq-of-lt h
 
 -- what was written is read back
 pub le-written : (n v : ℕ) (s : List ℕ) (p : ℕ) → v < 256 ^ n → p + n ≤ length s → le n (sets s p (leBytes n v)) p ≡ v

@@ -4,13 +4,13 @@ use mathlib.Core.Path.{_≡_, refl, sym, ap}
 use mathlib.Core.List.{List, [], _∷_}
 use lib.ListN.{length}
 use lib.Seq.{sets}
-use Rattle.fields.specs.Numbers.{leBytes, BytesAt}
+use Rattle.fields.specs.Numbers.{leBytes, HasBytes}
 use Rattle.fields.specs.Rows.{rowsBytes, rowsNumbers, RowsFit, fit-one}
-use Rattle.fields.proofs.BytesAtLaws.{at-left, at-right, stored-at}
+use Rattle.fields.proofs.HasBytesLaws.{at-left, at-right, stored-at}
 use Rattle.fields.proofs.NumbersLaws.{le-bytes, length-le-bytes}
 
 -- wherever their bytes stand
-pub rows-back : (width : ℕ → ℕ) (vs s : List ℕ) (p i : ℕ) → RowsFit width vs i → BytesAt s p (rowsBytes width vs i) → rowsNumbers width (length vs) s p i ≡ vs
+pub rows-back : (width : ℕ → ℕ) (vs s : List ℕ) (p i : ℕ) → RowsFit width vs i → HasBytes s p (rowsBytes width vs i) → rowsNumbers width (length vs) s p i ≡ vs
 unfolding rowsBytes rowsNumbers
 rows-back width [] s p i fit here = refl
 rows-back width (v ∷ vs) s p i (fit-one small fit) here =

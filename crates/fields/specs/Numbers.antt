@@ -20,6 +20,6 @@ leBytes zero v = []
 leBytes (suc n) v = v % 256 ∷ leBytes n (v / 256)
 
 -- these bytes stand in s from p on; a byte past the end is 0
-pub data BytesAt (s : List ℕ) : ℕ → List ℕ → Type 0 where
-  no-byte : {p : ℕ} → BytesAt s p []
-  a-byte : {p b : ℕ} {bs : List ℕ} → getD s p 0 ≡ b → BytesAt s (suc p) bs → BytesAt s p (b ∷ bs)
+pub data HasBytes (s : List ℕ) : ℕ → List ℕ → Type 0 where
+  no-byte : {p : ℕ} → HasBytes s p []
+  a-byte : {p b : ℕ} {bs : List ℕ} → getD s p 0 ≡ b → HasBytes s (suc p) bs → HasBytes s p (b ∷ bs)

@@ -1,4 +1,5 @@
 pub mod RoomLaws
 pub mod StreamLaws
 pub mod PartLaws
+pub mod LoadingLaws
 pub mod Outcomes

@@ -12,6 +12,10 @@ use Rattle.guest.proofs.sizes.is_allowed.Kinds as is-allowed-kinds
 use Rattle.guest.proofs.sizes.is_allowed.Reads as is-allowed-reads
 use Rattle.guest.proofs.room.has_room.Kinds as has-room-kinds
 use Rattle.guest.proofs.room.has_room.Reads as has-room-reads
+use Rattle.guest.proofs.lent.ask_memory.Kinds as ask-memory-kinds
+use Rattle.guest.proofs.lent.ask_memory.Reads as ask-memory-reads
+use Rattle.guest.proofs.lent.ask.Kinds as ask-kinds
+use Rattle.guest.proofs.lent.ask.Reads as ask-reads
 use Rattle.guest.proofs.copying.copy_image.Kinds as copy-image-kinds
 use Rattle.guest.proofs.copying.copy_image.Reads as copy-image-reads
 
@@ -29,6 +33,12 @@ is-allowed-one κs a z z' ws ws' p q = (meet p q, refl)
 
 pub has-room-one : OneOutcome 0 has-room-kinds.ps has-room-kinds.r has-room-reads.Post
 has-room-one κs a z z' ws ws' p q = (meet p q, refl)
+
+pub ask-memory-one : OneOutcome 0 ask-memory-kinds.ps ask-memory-kinds.r ask-memory-reads.Post
+ask-memory-one κs a z z' ws ws' p q = (meet p q, refl)
+
+pub ask-one : OneOutcome 0 ask-kinds.ps ask-kinds.r ask-reads.Post
+ask-one κs a z z' ws ws' p q = (meet p q, refl)
 
 pub copy-image-one : OneOutcome 2 copy-image-kinds.ps copy-image-kinds.r copy-image-reads.Post
 copy-image-one κs a z z' ws ws' p q = (refl, first (meet p q))

@@ -26,7 +26,7 @@ part-lent a g = take-all (length g - a) (drop a g) (simp length-drop (omega arit
 part-back : (a : ℕ) (g ys : List ℕ) → a ≤ length g → putMid a (length g - a) g ys ≡ take a g ++ ys
 part-back a g ys h = rw (post-is a (length g) g h, drop-length g, append-nil)
 
-pub part-poured : (a : ℕ) (g vs : List ℕ) {ys : List ℕ} → a ≤ length g → ys ≡ sets (midOf a (length g - a) g) 0 vs
+part-poured : (a : ℕ) (g vs : List ℕ) {ys : List ℕ} → a ≤ length g → ys ≡ sets (midOf a (length g - a) g) 0 vs
     → putMid a (length g - a) g ys ≡ pour (streamAt a vs) g
 part-poured a g vs {ys} h e =
     part-back a g ys h
@@ -60,12 +60,16 @@ pour-clipped vs g address {a} e = split (decLe address (length g))
     split (yes h) = ap (λ (m : ℕ). pour (streamAt m vs) g) (let same : a ≡ address = omega arith in same)
     split (no h) = pour-past vs g a (omega arith) ∙ sym (pour-past vs g address (omega arith))
 
+-- what is stored in the part of memory that begins at an address, clipped to the length
+pub part-clipped : (address : ℕ) (g vs : List ℕ) {a : ℕ} {ys : List ℕ} → a ≡ min address (length g) → ys ≡ sets (midOf a (length g - a) g) 0 vs
+    → putMid a (length g - a) g ys ≡ pour (streamAt address vs) g
+part-clipped address g vs {a} ea ey = part-poured a g vs (omega arith) ey ∙ pour-clipped vs g address ea
+
 -- n bytes from a place of the image, stored in the part of memory that begins at an address, each clipped to its length
 pub image-poured : (address place n : ℕ) (g s : List ℕ) {a from to : ℕ} {ys : List ℕ} → a ≡ min address (length g) → from ≡ min place (length s)
     → to ≡ from + min n (length s - from) → ys ≡ sets (midOf a (length g - a) g) 0 (midOf from (to - from) s)
     → putMid a (length g - a) g ys ≡ pour (streamAt address (bytesAt s place n)) g
 image-poured address place n g s {a} {from} {to} ea ef et ey =
     let count : to - from ≡ min n (length (drop from s)) = simp length-drop (omega arith) in
-    part-poured a g (midOf from (to - from) s) (omega arith) ey
-    ∙ pour-clipped (midOf from (to - from) s) g address ea
+    part-clipped address g (midOf from (to - from) s) ea ey
     ∙ ap (λ (vs : List ℕ). pour (streamAt address vs) g) (take-clipped n (drop from s) count ∙ ap (take n) (drop-clipped place s ef))

@@ -1,6 +1,7 @@
 -- Laws of the stream and of its pouring.
 use Prim.Native.Nat.{ℕ, suc, _+_, _-_, _≤_, _<_}
 use mathlib.Core.Path.{_≡_, sym, _∙_, refl, ap}
+use mathlib.Core.Bool.{true}
 use mathlib.Core.List.{List, [], _∷_, _++_}
 use native.Mathlib.Omega.{arith}
 use native.Mathlib.Decide.{decLe, ℕ-discrete}
@@ -10,7 +11,10 @@ use lib.ListN.{length, set, getD, length-set, List·getD-eq-default}
 use lib.Seq.{sets, set-append-left, getD-set-same, getD-set-other}
 use Rattle.answers.specs.Pick.{pick}
 use Rattle.fields.proofs.CopyingLaws.{sets-out}
+use Rattle.guest.specs.Room.{room}
 use Rattle.guest.specs.Stream.{Poke, pour, streamAt, lastAt, Inside, none, goes, Stands}
+use Rattle.guest.specs.declared.Memory.{Memory}
+use Rattle.guest.proofs.RoomLaws.{room-size, room-part}
 
 -- pouring keeps the length
 pub length-pour : (ps : List Poke) (guest : List ℕ) → length (pour ps guest) ≡ length guest
@@ -34,24 +38,30 @@ pour-at (v ∷ vs) guest a = pour-at vs (set guest a v) (suc a)
 pub pour-past : (vs guest : List ℕ) (a : ℕ) → length guest ≤ a → pour (streamAt a vs) guest ≡ guest
 pour-past vs guest a h = pour-at vs guest a ∙ sets-out vs guest a h
 
--- ---- into longer memory
+-- ---- into memory
 
-pub inside-append : {size : ℕ} {ps qs : List Poke} → Inside size ps → Inside size qs → Inside size (ps ++ qs)
+pub inside-append : {m : Memory} {ps qs : List Poke} → Inside m ps → Inside m qs → Inside m (ps ++ qs)
 inside-append none rest = rest
 inside-append (goes h more) rest = goes h (inside-append more rest)
 
-pub inside-at : (size a : ℕ) (vs : List ℕ) → a + length vs ≤ size → Inside size (streamAt a vs)
+-- bytes that have room together have it one by one
+pub inside-at : (m : Memory) (a n : ℕ) (vs : List ℕ) → room m a n ≡ true → length vs ≤ n → Inside m (streamAt a vs)
 unfolding streamAt
-inside-at size a [] h = none
-inside-at size a (v ∷ vs) h = goes {p = (a, v)} (omega arith) (inside-at size (suc a) vs (omega arith))
+inside-at m a n vs has few = go vs a (omega arith) (omega arith)
+  where
+    go : (us : List ℕ) (x : ℕ) → a ≤ x → x + length us ≤ a + n → Inside m (streamAt x us)
+    go [] x from below = none
+    go (u ∷ us) x from below = goes {p = (x, u)} (room-part m a n x 1 has from (omega arith)) (go us (suc x) (omega arith) (omega arith))
 
--- a stream that goes into memory leaves what is added behind it as it is
-pub pour-longer : (ps : List Poke) (guest more : List ℕ) → Inside (length guest) ps → pour ps (guest ++ more) ≡ pour ps guest ++ more
+-- a stream that goes into memory leaves what is added behind the slice as it is
+pub pour-longer : (ps : List Poke) (guest more : List ℕ) (m : Memory) → Inside m ps → m .size ≤ length guest
+    → pour ps (guest ++ more) ≡ pour ps guest ++ more
 unfolding pour
-pour-longer [] guest more h = refl
-pour-longer (p ∷ ps) guest more (goes h rest) =
-    rw (set-append-left guest more (p .0) (p .1) h)
-    (pour-longer ps (set guest (p .0) (p .1)) more (rw (length-set guest (p .0) (p .1)) rest))
+pour-longer [] guest more m h fits = refl
+pour-longer (p ∷ ps) guest more m (goes h rest) fits =
+    let lies = room-size m (p .0) 1 h in
+    rw (set-append-left guest more (p .0) (p .1) (omega arith))
+    (pour-longer ps (set guest (p .0) (p .1)) more m rest (simp length-set fits))
 
 -- ---- byte by byte
 
@@ -98,14 +108,17 @@ last-inside (v ∷ vs) x a b le lt = split (decLe (suc x) a) (λ h. last-inside 
         ∙ rw (eq-eqb x a e) (ap (λ k. getD (v ∷ vs) k 0) (let z : 0 ≡ a - x = omega arith in z))
 
 -- bytes poured where they have room, if there are any, stand there
-module _ (bytes : List ℕ) (address : ℕ) (guest : List ℕ) (room : 0 < length bytes → address + length bytes ≤ length guest) where
+module _ (bytes : List ℕ) (address : ℕ) (guest : List ℕ) (m : Memory) (has : 0 < length bytes → room m address (length bytes) ≡ true)
+    (fits : m .size ≤ length guest) where
   abbrev poured : List ℕ
   poured = pour (streamAt address bytes) guest
 
+  lies : (i : ℕ) → i < length bytes → address + i < length guest
+  lies i h = let sum = room-size m address (length bytes) (has (omega arith)) in omega arith
+
   at-byte : (i : ℕ) → i < length bytes → getD poured (address + i) 0 ≡ getD bytes i 0
   at-byte i h =
-      let fits = room (omega arith) in
-      last-decides (streamAt address bytes) guest (address + i) (omega arith)
+      last-decides (streamAt address bytes) guest (address + i) (lies i h)
       ∙ last-inside bytes address (address + i) (getD guest (address + i) 0) (omega arith) (omega arith)
       ∙ ap (λ k. getD bytes k 0) (let same : address + i - address ≡ i = omega arith in same)
 
@@ -122,6 +135,7 @@ module _ (bytes : List ℕ) (address : ℕ) (guest : List ℕ) (room : 0 < lengt
   poured-stands e =
       record {
         as-long = ap length e ∙ length-pour (streamAt address bytes) guest;
+        in-guest = lies;
         covered = λ i h. ap (λ l. getD l (address + i) 0) e ∙ at-byte i h;
         untouched = λ a out. ap (λ l. getD l a 0) e ∙ elsewhere a out;
       }

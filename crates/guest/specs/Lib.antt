@@ -1,4 +1,6 @@
 pub mod Addresses
 pub mod Sizes
 pub mod Room
+pub mod Lent
 pub mod Stream
+pub mod Loading

@@ -1,10 +1,13 @@
 -- What a load writes, as a stream: bytes with their addresses, in the order in which they are written; and guest memory after it.
 use mathlib.Core.Path.{_≡_}
+use mathlib.Core.Bool.{true}
 use mathlib.Core.List.{List, [], _∷_}
 use Prim.Native.Nat.{ℕ, suc, _+_, _≤_, _<_}
 use lib.Dec.{eqb}
 use lib.ListN.{length, getD, set, take, drop}
 use Rattle.answers.specs.Pick.{pick}
+use Rattle.guest.specs.Room.{room}
+use Rattle.guest.specs.declared.Memory.{Memory}
 
 -- an address, and the byte that goes there
 abbrev pub Poke : Type 0
@@ -29,13 +32,14 @@ unfoldable pub lastAt : List Poke → ℕ → ℕ → ℕ
 lastAt [] address byte = byte
 lastAt (p ∷ ps) address byte = lastAt ps address (pick (eqb (p .0) address) (p .1) byte)
 
--- every byte of a stream goes into memory of this size
-pub data Inside (size : ℕ) : List Poke → Type 0 where
-  none : Inside size []
-  goes : {p : Poke} {ps : List Poke} → p .0 < size → Inside size ps → Inside size (p ∷ ps)
+-- every byte of a stream has room in memory
+pub data Inside (m : Memory) : List Poke → Type 0 where
+  none : Inside m []
+  goes : {p : Poke} {ps : List Poke} → room m (p .0) 1 ≡ true → Inside m ps → Inside m (p ∷ ps)
 
--- bytes stand in guest memory from an address on, and nothing else has changed
+-- bytes stand in guest memory from an address on, each of them at a place of it, and nothing else has changed
 pub record Stands (bytes : List ℕ) (address : ℕ) (guest after : List ℕ) : Type 0 where
   pub as-long : length after ≡ length guest
+  pub in-guest : (i : ℕ) → i < length bytes → address + i < length guest
   pub covered : (i : ℕ) → i < length bytes → getD after (address + i) 0 ≡ getD bytes i 0
   pub untouched : (a : ℕ) → (address ≤ a → a < address + length bytes → ⊥) → getD after a 0 ≡ getD guest a 0

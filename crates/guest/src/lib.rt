@@ -1,6 +1,7 @@
 // Guest memory, as a lent slice: its addresses, its size, its room, and what is written into it.
 pub mod addresses;
 pub mod copying;
+pub mod lent;
 pub mod room;
 pub mod sizes;
 
@@ -16,4 +17,9 @@ pub struct ImagePlace(pub u64);
 pub enum Given {
     Nothing,
     At(GuestAddress),
+}
+
+// Guest memory, as what is written into it sees it: a lent slice of this many bytes.
+pub struct Memory {
+    pub size: u64,
 }

@@ -2,11 +2,12 @@
 ghost use mathlib.Core.Path.{_≡_};
 ghost use Rattle.guest.specs.Room.{room};
 use crate::GuestAddress;
+use crate::Memory;
 use fields::ranges;
 
-// Do n bytes at an address lie in guest memory of this size?
-pub fn has_room(size: u64, address: GuestAddress, n: u64) -> bool
-    ensures { λ r. ⌜ r ≡ room size (address .0) n ⌝ }
+// Do n bytes at an address lie in guest memory?
+pub fn has_room(memory: Memory, address: GuestAddress, n: u64) -> bool
+    ensures { λ r. ⌜ r ≡ room memory (address .0) n ⌝ }
 {
-    ranges::within(size, address.0, n)
+    ranges::within(memory.size, address.0, n)
 }

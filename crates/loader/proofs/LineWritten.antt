@@ -1,19 +1,22 @@
 -- The sentence "then the line and its zero, nothing else touched": after an accepted loading each byte of guest memory is the line's that
 -- covers it, the zero after the text, or as it was; after a refused one every byte is as it was.
-use Prim.Native.Nat.{ℕ, _-_}
-use mathlib.Core.Path.{_≡_, _∙_}
+use Prim.Native.Nat.{ℕ}
+use mathlib.Core.Path.{_≡_, _∙_, ap}
 use mathlib.Core.List.{List}
+use native.Mathlib.Omega.{arith}
 use lib.ListN.{length}
 use Rattle.answers.specs.declared.Refusal.{Refusal}
 use Rattle.cmdline.specs.Text.{Text}
-use Rattle.guest.specs.Stream.{Stands}
-use Rattle.guest.proofs.RoomLaws.{room-sum}
+use Rattle.guest.specs.Loading.{Plan}
+use Rattle.guest.specs.Room.{memoryOf}
+use Rattle.guest.specs.Stream.{pour, Stands}
 use Rattle.guest.proofs.StreamLaws.{poured-stands}
+use Rattle.guest.proofs.LoadingLaws.{nothing-written, all-planned, first-planned}
 use Rattle.loader.specs.declared.Answer.{Answer}
 use Rattle.loader.specs.declared.Answer.the-variants.{Loaded, Refused}
-use Rattle.loader.specs.Lines.{lineBytes, LineLoads}
+use Rattle.loader.specs.Lines.{lineBytes, tests, linePlan, planOf, LineLoads}
+use Rattle.loader.proofs.LinesLaws.{hold-room}
 use Rattle.loader.proofs.Refusals.{where-loaded, where-refused}
-use Rattle.loader.proofs.LinesLaws.{open-after, shut-after}
 
 -- ---- of the loading's contract
 
@@ -21,8 +24,11 @@ module _ (t : Text) (address : ℕ) (guest : List ℕ) {r : Answer} {after : Lis
   pub loaded-written : r ≡ Loaded → Stands (lineBytes t) address guest after
   loaded-written e =
       let hold = where-loaded t address guest loads e in
-      let fits = room-sum (length guest) address (length (lineBytes t)) (hold .1 .1 .0) in
-      poured-stands (lineBytes t) address guest (λ _. fits) (loads .written ∙ open-after t address guest hold)
+      poured-stands (lineBytes t) address guest (memoryOf guest) (λ _. hold-room t (memoryOf guest) address hold) (omega arith)
+      (loads .memory ∙ ap (λ (p : Plan Answer). pour (p .stream) guest) (all-planned Refused (tests t (memoryOf guest) address) (linePlan t address) hold))
 
   pub refused-untouched : {refusal : Refusal} → r ≡ Refused refusal → after ≡ guest
-  refused-untouched {refusal} e = loads .written ∙ shut-after t address guest (where-refused t address guest loads e)
+  refused-untouched e =
+      nothing-written (planOf t (memoryOf guest) address) guest after loads
+      (ap (λ (p : Plan Answer). p .stream)
+      (first-planned Refused (tests t (memoryOf guest) address) (linePlan t address) (where-refused t address guest loads e)))

@@ -8,54 +8,36 @@ use mathlib.Core.List.{List}
 use native.Mathlib.Omega.{arith}
 use lib.ListN.{length}
 use Rattle.answers.specs.Pick.{pick}
-use Rattle.answers.specs.Tests.{Test, asked, AllHold, FirstFails}
+use Rattle.answers.specs.Tests.{Test, asked, isOpen, AllHold, FirstFails}
 use Rattle.answers.specs.declared.Refusal.{Refusal}
-use Rattle.answers.specs.declared.Refusal.the-variants.{NoBootArgsInserted, NullTerminator}
-use Rattle.answers.specs.declared.Gate.{Gate}
-use Rattle.answers.specs.declared.Gate.the-variants.{Open, Shut}
-use Rattle.answers.proofs.TestsLaws.{open-all, all-open, shut-first, first-shut}
 use Rattle.slugs.specs.Bytes.{has}
 use Rattle.cmdline.specs.Text.{Text}
 use Rattle.cmdline.specs.Writing.{headed, wholeOf, textTests, textGate}
+use Rattle.guest.specs.Loading.{Plan}
+use Rattle.guest.specs.Room.{memoryOf}
+use Rattle.guest.proofs.LoadingLaws.{all-planned, first-planned}
 use Rattle.loader.specs.declared.Answer.{Answer}
 use Rattle.loader.specs.declared.Answer.the-variants.{Loaded, Refused}
-use Rattle.loader.specs.Lines.{isOpen, tests, gateOf, answerOf, LineLoads}
-
--- what is answered says how the tests ended
-answered-open : (gate : Gate) → answerOf gate ≡ Loaded → gate ≡ Open
-answered-open Open e = refl
-answered-open (Shut refusal) e = let w : _≡_ {A = ℕ} 0 1 = cc in absurd (omega arith)
-
-answered-shut : (gate : Gate) {refusal : Refusal} → answerOf gate ≡ Refused refusal → gate ≡ Shut refusal
-answered-shut Open e = let w : _≡_ {A = ℕ} 0 1 = cc in absurd (omega arith)
-answered-shut (Shut first) {refusal} e = let is : _≡_ {A = Refusal} first refusal = cc in ap Shut is
+use Rattle.loader.specs.Lines.{tests, linePlan, LineLoads, TextRefused, no-boot-args, null-terminator}
+use Rattle.loader.proofs.LinesLaws.{plan-loaded, plan-refused}
 
 module _ (t : Text) (address : ℕ) (guest : List ℕ) {r : Answer} {after : List ℕ} (loads : LineLoads t address guest r after) where
   abbrev row : List Test
-  row = tests t (length guest) address
+  row = tests t (memoryOf guest) address
 
   pub loaded-where : AllHold row → r ≡ Loaded
-  unfolding gateOf
-  loaded-where h = loads .answer ∙ ap answerOf (all-open row h)
+  loaded-where h = loads .answer ∙ ap (λ (p : Plan Answer). p .answer) (all-planned Refused row (linePlan t address) h)
 
   pub where-loaded : r ≡ Loaded → AllHold row
-  unfolding gateOf
-  where-loaded e = open-all row (answered-open (gateOf t (length guest) address) (sym (loads .answer) ∙ e))
+  where-loaded e = plan-loaded t (memoryOf guest) address (sym (loads .answer) ∙ e)
 
   pub refused-where : {refusal : Refusal} → FirstFails refusal row → r ≡ Refused refusal
-  unfolding gateOf
-  refused-where {refusal} f = loads .answer ∙ ap answerOf (first-shut row refusal f)
+  refused-where f = loads .answer ∙ ap (λ (p : Plan Answer). p .answer) (first-planned Refused row (linePlan t address) f)
 
   pub where-refused : {refusal : Refusal} → r ≡ Refused refusal → FirstFails refusal row
-  unfolding gateOf
-  where-refused {refusal} e = shut-first row refusal (answered-shut (gateOf t (length guest) address) (sym (loads .answer) ∙ e))
+  where-refused e = plan-refused t (memoryOf guest) address (sym (loads .answer) ∙ e)
 
 -- ---- the condition of InvalidCommandLine
-
--- writing the line would be refused for its text, by one of the two refusals that there are
-pub data TextRefused (t : Text) : Type 0 where
-  no-boot-args : textGate t ≡ Shut NoBootArgsInserted → TextRefused t
-  null-terminator : textGate t ≡ Shut NullTerminator → TextRefused t
 
 pub invalid-when : (t : Text) → TextRefused t → isOpen (textGate t) ≡ false
 unfolding isOpen

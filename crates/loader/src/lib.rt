@@ -9,55 +9,71 @@
 //
 // SPDX-License-Identifier: Apache-2.0 AND BSD-3-Clause
 
-// A command line put into guest memory.
-ghost use mathlib.Core.Path.{_≡_};
+// A command line put into guest memory. The tests come first, in their order; then the line is written where it has room.
+ghost use Prim.Native.Nat.{_≤_};
+ghost use lib.ListN.{length, take};
 ghost use Rattle.cmdline.specs.Held.{textOf};
+ghost use Rattle.cmdline.specs.Limit.{limit};
 ghost use Rattle.cmdline.specs.Writing.{bare};
-ghost use Rattle.loader.specs.Lines.{answerFor, LineLoads};
+ghost use Rattle.loader.specs.Lines.{LineLoads};
+use answers::Gate;
 use answers::Refusal;
 use cmdline::Cmdline;
 use cmdline::LIMIT;
-use cmdline::Written;
+use cmdline::sizes;
 use cmdline::writing;
 use fields::copying;
 use guest::GuestAddress;
-use guest::sizes;
+use guest::Memory;
+use guest::lent;
+use guest::room;
 
 pub enum Answer {
     Loaded,
     Refused(Refusal),
 }
 
-// What the line's own written answer comes to: a line without room overflows, and one that is refused for its text is invalid.
-fn answer_for(written: Written) -> Answer
-    ensures { λ r. ⌜ r ≡ answerFor written ⌝ }
+// The line of two texts and its zero, written to an address. The part of guest memory that begins there is lent on, and the writer sees
+// only that part.
+fn load_texts(guest: &mut [u8], guest_addr: GuestAddress, boot: &[u8], init: &[u8]) -> Answer
+    requires { ⌜ (length (now boot) ≤ limit) × (length (now init) ≤ limit) ⌝ }
+    ensures { λ r. ⌜ LineLoads (bare (now (boot .entry)) (now (init .entry))) («guest_addr» .0) (now (guest .entry)) r (now (guest .exit)) ⌝ }
 {
-    match written {
-        Written::Bytes(_) => Answer::Loaded,
-        Written::Refused(refusal) => {
-            if answers::number(refusal) == answers::number(Refusal::NoRoom) {
-                Answer::Refused(Refusal::CommandLineOverflow)
-            } else {
-                Answer::Refused(Refusal::InvalidCommandLine)
-            }
+    let memory = Memory {
+        size: guest.len() as u64,
+    };
+    let size = sizes::line_size(boot.len(), init.len()) as u64;
+    let gate = lent::ask_memory(Gate::Open, memory);
+    let gate = answers::require(
+        gate,
+        answers::is_open(writing::text_gate(boot, init)),
+        Refusal::InvalidCommandLine,
+    );
+    let gate = answers::require(
+        gate,
+        room::has_room(memory, guest_addr, size),
+        Refusal::CommandLineOverflow,
+    );
+    match gate {
+        Gate::Shut(refusal) => Answer::Refused(refusal),
+        Gate::Open => {
+            let at = copying::lesser(guest_addr.0 as usize, guest.len());
+            writing::write(&mut guest[at..], boot, init);
+            Answer::Loaded
         }
     }
 }
 
-// Writes the line of two texts and its zero to an address. The part of guest memory that begins there is lent on, and the writer sees only that
-// part: an address past the end lends the empty part, in which no line has room.
-pub fn load_texts(guest: &mut [u8], guest_addr: GuestAddress, boot: &[u8], init: &[u8]) -> Answer
-    ensures { λ r. ⌜ LineLoads (bare (now (boot .entry)) (now (init .entry))) («guest_addr» .0) (now (guest .entry)) r (now (guest .exit)) ⌝ }
+// The line of two texts that are lent. Of a text that is longer than the limit, which no line holds, the first LIMIT bytes count.
+pub fn load_line(guest: &mut [u8], guest_addr: GuestAddress, boot: &[u8], init: &[u8]) -> Answer
+    ensures { λ r. ⌜ LineLoads (bare (take limit (now (boot .entry))) (take limit (now (init .entry)))) («guest_addr» .0) (now (guest .entry)) r (now (guest .exit)) ⌝ }
 {
-    if !sizes::is_allowed(guest.len() as u64) {
-        return Answer::Refused(Refusal::SliceTooLong);
-    }
-    let at = copying::lesser(guest_addr.0 as usize, guest.len());
-    let written = writing::as_cstring(&mut guest[at..], boot, init);
-    answer_for(written)
+    let boots = copying::lesser(boot.len(), LIMIT);
+    let inits = copying::lesser(init.len(), LIMIT);
+    load_texts(guest, guest_addr, &boot[..boots], &init[..inits])
 }
 
-// The same of a line by value.
+// The line of a `Cmdline`.
 pub fn load_cmdline(guest: &mut [u8], guest_addr: GuestAddress, cmdline: Cmdline) -> Answer
     ensures { λ r. ⌜ LineLoads (textOf cmdline) («guest_addr» .0) (now (guest .entry)) r (now (guest .exit)) ⌝ }
 {

@@ -1,4 +1,3 @@
-pub mod PlacesLaws
 pub mod ReadersLaws
 pub mod NotesLaws
 pub mod Outcomes

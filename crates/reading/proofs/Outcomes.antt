@@ -17,13 +17,11 @@ use Rattle.reading.specs.Outcome.{OneOutcomeOf}
 use Rattle.reading.specs.Readers.{Takes}
 use Rattle.reading.proofs.new as new
 use Rattle.reading.proofs.take as take
-use Rattle.reading.proofs.has_tag as has-tag
 use Rattle.reading.proofs.notes.read_note_header.Kinds as read-note-header-kinds
 use Rattle.reading.proofs.notes.read_note_header.Reads as read-note-header-reads
 
 pub read-note-header-one : OneOutcome 1 read-note-header-kinds.ps read-note-header-kinds.r read-note-header-reads.Post
-read-note-header-one κs a z z' ws ws' p q =
-    ((λ i. record { namesz = meet (p .name .value) (q .name .value) i; descsz = meet (p .desc .value) (q .desc .value) i; kind = meet (p .kind .value) (q .kind .value) i }), refl)
+read-note-header-one κs a z z' ws ws' p q = (meet p q, refl)
 
 -- ---- over a reader
 
@@ -40,6 +38,3 @@ module _ {M : Type 1} (𝓤 : URA M) (H : Heap 𝓤) (A : Atoms 𝓤) (mem : Mem
 
   pub take-one : OneOutcomeOf 𝓤 take.ended (take.clauses 𝓤 H A mem run)
   take-one κs a g z z' ws ws' = from-facts _ _ _ (λ p q. (taken-one (a .0) (a .1 .0) p q, refl))
-
-  pub has-tag-one : OneOutcomeOf 𝓤 has-tag.ended (has-tag.clauses 𝓤 H A mem run)
-  has-tag-one κs a g z z' ws ws' = from-facts _ _ _ (λ p q. (meet p q, refl))

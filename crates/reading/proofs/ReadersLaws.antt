@@ -1,14 +1,15 @@
 -- A reader that goes from number to number reads what a slice and a place would: it stands at the place, or, where no number of 64 bits
 -- says that place, at the greatest one, and reads 0 at both.
-use Prim.Native.Nat.{ℕ, zero, suc, _+_, _≤_, min}
-use mathlib.Core.Path.{_≡_, refl, sym, _∙_, ap}
+use Prim.Native.Nat.{ℕ, _+_, _≤_, min}
+use mathlib.Core.Path.{_≡_, sym, _∙_, ap}
 use mathlib.Core.List.{List}
 use native.Mathlib.Omega.{arith}
 use native.Mathlib.Decide.{decLe}
 use denote.Ref.{RefT, now}
-use lib.ListN.{length, List·getD-eq-default}
-use Rattle.fields.specs.Numbers.{le, ReadAs}
+use lib.ListN.{length}
+use Rattle.fields.specs.Numbers.{le}
 use Rattle.fields.specs.Ranges.{top64}
+use Rattle.fields.proofs.NumbersLaws.{le-past}
 use Rattle.guest.specs.declared.ImagePlace.{ImagePlace}
 use Rattle.reading.specs.declared.Reader.{Reader}
 use Rattle.reading.specs.declared.Taken.{Taken}
@@ -27,16 +28,7 @@ new-stands image at small e =
       at-place = ap (λ (r : Reader). r .at .0) e ∙ (let same : at .0 ≡ min (at .0) top64 = omega arith in same);
     }
 
--- past the end every number is 0
-le-past : (n : ℕ) (s : List ℕ) (p : ℕ) → length s ≤ p → le n s p ≡ 0
-unfolding le
-le-past zero s p h = refl
-le-past (suc n) s p h =
-    let byte = List·getD-eq-default s 0 {n = p} h in
-    let more = le-past n s (suc p) (omega arith) in
-    omega arith
-
--- so a place beyond the greatest number reads as that number does
+-- past the end every number is 0, so a place beyond the greatest number reads as that number does
 le-clipped : (n : ℕ) (s : List ℕ) (p : ℕ) → length s ≤ top64 → le n s (min p top64) ≡ le n s p
 le-clipped n s p short = split (decLe p top64)
   where
@@ -46,16 +38,12 @@ le-clipped n s p short = split (decLe p top64)
 
 module _ (image : RefT (List ℕ)) (p width : ℕ) {reader : Reader} {t : Taken} (stands : Stands image p reader) (takes : Takes reader width t) where
   -- the number that is taken
-  pub reads-there : length (now image) ≤ top64 → ReadAs (widthOf width) (now image) p (t .value)
+  pub reads-there : length (now image) ≤ top64 → t .value ≡ le (widthOf width) (now image) p
   reads-there short =
-      record {
-        value =
-            takes .number .value
-            ∙ ap (λ (i : RefT (List ℕ)). le (widthOf width) (now i) (reader .at .0)) (stands .over)
-            ∙ ap (le (widthOf width) (now image)) (stands .at-place)
-            ∙ le-clipped (widthOf width) (now image) p short;
-        small = takes .number .small;
-      }
+      takes .number .value
+      ∙ ap (λ (i : RefT (List ℕ)). le (widthOf width) (now i) (reader .at .0)) (stands .over)
+      ∙ ap (le (widthOf width) (now image)) (stands .at-place)
+      ∙ le-clipped (widthOf width) (now image) p short
 
   -- and where the reader stands then
   pub stands-past : Stands image (p + widthOf width) (t .rest)

@@ -1,7 +1,6 @@
 // A reader that keeps the image and its place together. Its functions are thin: each takes the reader apart and leaves the work to a
 // function over a slice and a place. They are proved by hand; whoever reads by `notes` needs no reader of their own.
 ghost use mathlib.Core.Path.{_≡_};
-ghost use Rattle.fields.specs.Tags.{tagAt};
 ghost use Rattle.reading.specs.Readers.{readerAt, Takes};
 use guest::ImagePlace;
 
@@ -19,11 +18,11 @@ pub struct Taken<'a> {
     pub rest: Reader<'a>,
 }
 
-// A note's header: the sizes of its name and of its descriptor, and its type.
+// The twelve bytes before a note's name: the sizes of its name and of its descriptor, and its type, each a number of four bytes.
 pub struct NoteHeader {
-    pub namesz: u64,
-    pub descsz: u64,
-    pub kind: u64,
+    pub n_namesz: u64,
+    pub n_descsz: u64,
+    pub n_type: u64,
 }
 
 pub fn new<'a>(image: &'a [u8], at: ImagePlace) -> Reader<'a>
@@ -45,11 +44,4 @@ pub fn take<'a>(reader: Reader<'a>, width: u64) -> Taken<'a>
             at,
         },
     }
-}
-
-// Do the bytes at the reader's place begin with those of the tag?
-pub fn has_tag<'a, 't>(reader: Reader<'a>, tag: &'t [u8]) -> bool
-    ensures { λ r. ⌜ r ≡ tagAt (now (tag .entry)) (now (reader .entry .image)) (reader .entry .at .0) ⌝ }
-{
-    places::tag_at(reader.image, reader.at, tag)
 }

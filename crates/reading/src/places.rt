@@ -1,34 +1,21 @@
 // What stands at a place of a slice, and the place after it.
 ghost use mathlib.Core.Path.{_≡_};
-ghost use Rattle.fields.specs.Tags.{tagAt};
 ghost use Rattle.reading.specs.Places.{NumberAt, placePast};
 use fields::numbers;
-use fields::tags;
+use fields::ranges;
 use guest::ImagePlace;
 
 // The number of `width` bytes at a place; a width above 8 counts as 8.
-pub fn number_at(image: &[u8], at: ImagePlace, width: u64) -> u64
+pub(crate) fn number_at(image: &[u8], at: ImagePlace, width: u64) -> u64
     ensures { λ r. ⌜ NumberAt (now (image .entry)) (at .0) width r ⌝ }
 {
     numbers::read_le(image, at.0, width)
 }
 
 // The place past a number of `width` bytes, where it is a number of 64 bits, else the greatest such number.
-pub fn place_past(at: ImagePlace, width: u64) -> ImagePlace
+pub(crate) fn place_past(at: ImagePlace, width: u64) -> ImagePlace
     ensures { λ r. ⌜ r ≡ placePast at width ⌝ }
 {
     let n = numbers::bytes_of(width);
-    let room = 0xFFFF_FFFF_FFFF_FFFF - at.0;
-    if n <= room {
-        ImagePlace(at.0 + n)
-    } else {
-        ImagePlace(0xFFFF_FFFF_FFFF_FFFF)
-    }
-}
-
-// Do the bytes at a place begin with those of the tag?
-pub fn tag_at(image: &[u8], at: ImagePlace, tag: &[u8]) -> bool
-    ensures { λ r. ⌜ r ≡ tagAt (now (tag .entry)) (now (image .entry)) (at .0) ⌝ }
-{
-    tags::is_tag(image, at.0, tag)
+    ImagePlace(ranges::sum_up_to(0xFFFF_FFFF_FFFF_FFFF, at.0, n))
 }

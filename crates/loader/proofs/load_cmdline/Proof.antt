@@ -1,12 +1,11 @@
--- `loader::load_cmdline`: the texts are lent on, and a capacity has no part in loading.
+-- `load_cmdline`: the texts that the line holds are lent on, and a capacity has no part in loading.
 use borrow.Author.Needs.{needs}
 use mathlib.Core.Path.{_≡_, sym}
 use native.Mathlib.Omega.{arith}
 use lib.ListN.{length}
 use lib.Seq.{length-take-le}
 use Rattle.cmdline.specs.Limit.{limit}
-use Rattle.cmdline.specs.Held.{textOf}
-use Rattle.loader.proofs.LinesLaws.{loads-any}
+use Rattle.loader.proofs.LinesLaws.{short-part}
 use Rattle.loader.proofs.load_cmdline.Statement.{statement}
 use Rattle.loader.proofs.load_cmdline.Tie as tie
 
@@ -30,10 +29,13 @@ slice-aggregate-load-texts-2 c =
     let long : length (c .before .before .before .before .before .before .before .before .args .cmdline .init) ≡ limit = search needs in
     sym (length-take-le (c .before .before .before .before .before .lesser2 .result) (c .before .before .before .before .before .before .before .before .args .cmdline .init) (omega (arith, c .before .before .before .before .before .lesser2 .ensures)))
 
+load-texts-requires : tie.Need-load-texts-requires
+load-texts-requires c κs =
+    let line = c .before .before .before .before .before .before .before .before .args .cmdline in
+    (short-part (line .boots) (line .boot) (c .before .before .before .before .before .before .lesser .ensures), short-part (line .inits) (line .init) (c .before .before .before .before .before .lesser2 .ensures))
+
 returns : tie.Need-returns
-returns c =
-    let args = c .before .before .before .before .before .before .before .before .before .before .before .args in
-    loads-any (textOf (args .cmdline)) (rw (c .before .before .before .before .before .before .before .before .before .lesser .ensures, c .before .before .before .before .before .before .before .before .lesser2 .ensures) at (c .before .before .load-texts .ensures))
+returns c = rw (c .before .before .before .before .before .before .before .before .before .lesser .ensures, c .before .before .before .before .before .before .before .before .lesser2 .ensures) at (c .before .before .load-texts .ensures)
 
 pub load-cmdline-spec : {M : Type 1} → statement M
 load-cmdline-spec =
@@ -45,6 +47,6 @@ load-cmdline-spec =
     slice-aggregate-load-texts
     array-share-prefix-init
     slice-aggregate-load-texts-2
-    (λ c κs. search needs)
+    load-texts-requires
     (λ c. search needs)
     returns)

@@ -12,12 +12,6 @@ sub-at c =
     let at-place = c .before .before .before .before .before .before in
     omega (arith, c .place2 .ensures ∙ at-code32-start, at-place .place .ensures ∙ at-setup-sects)
 
-put-u32-requires : tie.Need-put-u32-requires
-put-u32-requires c κs =
-    let at-copy = c .before .before .before in
-    let at-place = at-copy .before .before .before .before in
-    omega (arith, c .before .place2 .ensures ∙ at-code32-start, at-place .place .ensures ∙ at-setup-sects, at-copy .copy .kept .0)
-
 returns : tie.Need-returns
 returns c =
     let at-place2 = c .before .before .before in
@@ -27,7 +21,7 @@ returns c =
     let start = at-place .before .before in
     let args = start .args in
     header-made (args .image .now) (args .load .0) (at-place .place .ensures) (at-lesser .lesser .ensures) (at-copy .copy .ensures) (at-place2 .place2 .ensures)
-    (c .before .put-u32 .ensures)
+    (c .before .put-le .ensures)
 
 pub header-with-spec : {M : Type 1} → statement M
 header-with-spec =
@@ -43,5 +37,5 @@ header-with-spec =
     (λ c κs. search needs)
     sub-at
     (λ c. search needs)
-    put-u32-requires
+    (λ c κs. tt)
     returns)

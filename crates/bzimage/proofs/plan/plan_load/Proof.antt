@@ -1,7 +1,9 @@
 -- `plan::plan_load`: a shut gate refuses; an open one says that the end is a number of 64 bits.
 use borrow.Author.Needs.{needs}
-use mathlib.Core.Path.{sym, _∙_}
+use mathlib.Core.Path.{sym, _∙_, ap}
 use native.Mathlib.Omega.{arith}
+use Rattle.guest.specs.Loading.{Plan}
+use Rattle.bzimage.specs.declared.Outcome.{Outcome}
 use Rattle.bzimage.specs.Plan.{loadedAt}
 use Rattle.bzimage.proofs.PlanLaws.{open-end, plan-shut, plan-open}
 use Rattle.bzimage.proofs.plan.plan_load.Statement.{statement}
@@ -14,7 +16,7 @@ add-end c =
     let opens = c .before .before .before .before .enum-told .given .1 in
     record {
       fits =
-          open-end (args .image .now) (args .size) (args .offset) (args .highmem) asked opens (c .before .before .before .code32-start .ensures) (c .before .before .given-or .ensures)
+          open-end (args .image .now) (args .memory) (args .offset) (args .highmem) asked opens (c .before .before .before .code32-start .ensures) (c .before .before .given-or .ensures)
           (c .before .kernel-size .ensures) (omega arith) (omega arith);
     }
 
@@ -22,7 +24,7 @@ returns : tie.Need-returns
 returns c =
     let args = c .before .before .before .before .before .before .args in
     let asked = c .before .before .before .before .validate .ensures in
-    c .refused .ensures ∙ sym (plan-shut (args .image .now) (args .size) (args .offset) (args .highmem) asked (c .before .before .gate .given .1))
+    c .refused .ensures ∙ sym (ap (λ (p : Plan Outcome). p .answer) (plan-shut (args .image .now) (args .memory) (args .offset) (args .highmem) asked (c .before .before .gate .given .1)))
 
 returns-2 : tie.Need-returns-2
 unfolding loadedAt
@@ -30,7 +32,7 @@ returns-2 c =
     let args = c .before .before .before .before .before .before .before .before .before .args in
     let asked = c .before .before .before .before .before .before .before .validate .ensures in
     rw (c .header-with .ensures, c .before .before .kernel-size .ensures, c .before .before .before .given-or .ensures, c .before .before .before .before .code32-start .ensures)
-    (sym (plan-open (args .image .now) (args .size) (args .offset) (args .highmem) asked (c .before .before .before .before .before .enum-told .given .1)))
+    (sym (ap (λ (p : Plan Outcome). p .answer) (plan-open (args .image .now) (args .memory) (args .offset) (args .highmem) asked (c .before .before .before .before .before .enum-told .given .1))))
 
 pub plan-load-spec : {M : Type 1} → statement M
 plan-load-spec =

@@ -2,25 +2,20 @@
 use borrow.Author.Needs.{needs}
 use mathlib.Core.Path.{_∙_}
 use Rattle.bzimage.specs.SetupHeader.{headerMagic, version, loadflags}
-use Rattle.bzimage.specs.Plan.{gateOf}
 use Rattle.bzimage.proofs.SetupHeaderLaws.{at-header, at-version, at-loadflags}
 use Rattle.bzimage.proofs.KernelLaws.{field-read, byte-read}
 use Rattle.bzimage.proofs.plan.validate.Statement.{statement}
 use Rattle.bzimage.proofs.plan.validate.Tie as tie
 
 returns : tie.Need-returns
-unfolding gateOf
 returns c =
     let at-amount = c .before .before .before in
-    let at-require6 = at-amount .before in
-    let at-require5 = at-require6 .before in
-    let at-require4 = at-require5 .before in
+    let at-require4 = at-amount .before in
     let at-require3 = at-require4 .before in
     let at-require2 = at-require3 .before in
-    let at-is-allowed2 = at-require2 .before in
-    let at-require = at-is-allowed2 .before in
-    let at-is-allowed = at-require .before in
-    let at-room-for = at-is-allowed .before in
+    let at-require = at-require2 .before in
+    let at-ask = at-require .before in
+    let at-room-for = at-ask .before in
     let at-kernel-size = at-room-for .before in
     let at-given-or = at-kernel-size .before in
     let at-code32-start = at-given-or .before in
@@ -37,17 +32,14 @@ returns c =
     let version-read = field-read version image (at-place2 .place2 .ensures ∙ at-version) (at-read-u16 .read-u16 .ensures) in
     let flags-read = byte-read loadflags image (at-place3 .place3 .ensures ∙ at-loadflags) (at-byte-at .byte-at .ensures) in
     rw (
-      c .require8 .ensures,
-      c .before .require7 .ensures,
+      c .require6 .ensures,
+      c .before .require5 .ensures,
       at-amount .amount .ensures,
-      at-require6 .require6 .ensures,
-      at-require5 .require5 .ensures,
       at-require4 .require4 .ensures,
       at-require3 .require3 .ensures,
       at-require2 .require2 .ensures,
-      at-is-allowed2 .is-allowed2 .ensures,
       at-require .require .ensures,
-      at-is-allowed .is-allowed .ensures,
+      at-ask .ask .ensures,
       at-room-for .room-for .ensures,
       at-kernel-size .kernel-size .ensures,
       at-given-or .given-or .ensures,
@@ -62,9 +54,6 @@ pub validate-spec : {M : Type 1} → statement M
 validate-spec =
     tie.close
     (tie.spec
-    (λ c κs. search needs)
-    (λ c κs. search needs)
-    (λ c κs. search needs)
     (λ c κs. search needs)
     (λ c κs. search needs)
     (λ c κs. search needs)

@@ -1,17 +1,16 @@
 -- `elf_told::load`: a loaded kernel's values are stored one by one; a refusal stores nothing.
 use borrow.Author.Needs.{needs}
 use mathlib.Core.Path.{refl}
-use Rattle.elf.specs.Load.{answerNumber}
-use Rattle.capi.specs.Loads.{loadValues}
+use Rattle.elf.specs.Load.{elfNumber, elfValues}
 use Rattle.capi.proofs.elf_told.load.Statement.{statement}
 use Rattle.capi.proofs.elf_told.load.Tie as tie
 
 returns : tie.Need-returns
-unfolding answerNumber loadValues
+unfolding elfNumber elfValues
 returns c = rw (c .before .before .before .answer .given .1) (record { answer = refl; told = rw (c .before .pvh-code .ensures, c .pvh-address .ensures) })
 
 returns-2 : tie.Need-returns-2
-unfolding answerNumber loadValues
+unfolding elfNumber elfValues
 returns-2 c = rw (c .before .before .answer2 .given .1) (record { answer = c .number .ensures; told = refl })
 
 pub load-spec : {M : Type 1} → statement M

@@ -1,8 +1,7 @@
 -- `elf_told::note`: what is said is stored value by value; a refusal stores nothing.
 use borrow.Author.Needs.{needs}
 use mathlib.Core.Path.{refl}
-use Rattle.elf.specs.Load.{noteNumber}
-use Rattle.capi.specs.Loads.{noteValues}
+use Rattle.elf.specs.Load.{noteNumber, noteValues}
 use Rattle.capi.proofs.elf_told.note.Statement.{statement}
 use Rattle.capi.proofs.elf_told.note.Tie as tie
 

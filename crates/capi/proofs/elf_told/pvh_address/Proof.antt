@@ -1,7 +1,7 @@
 -- `elf_told::pvh_address`: by cases, as the definition goes.
 use borrow.Author.Needs.{needs}
 use mathlib.Core.Path.{ap, sym}
-use Rattle.capi.specs.Loads.{pvhAddress}
+use Rattle.elf.specs.Load.{pvhAddress}
 use Rattle.capi.proofs.elf_told.pvh_address.Statement.{statement}
 use Rattle.capi.proofs.elf_told.pvh_address.Tie as tie
 

@@ -1,7 +1,7 @@
 -- `elf_told::pvh_code`: by cases, as the definition goes.
 use borrow.Author.Needs.{needs}
 use mathlib.Core.Path.{ap, sym}
-use Rattle.capi.specs.Loads.{pvhCode}
+use Rattle.elf.specs.Load.{pvhCode}
 use Rattle.capi.proofs.elf_told.pvh_code.Statement.{statement}
 use Rattle.capi.proofs.elf_told.pvh_code.Tie as tie
 

@@ -1,56 +1,48 @@
 -- `header::validate_header`: each answer of the row is the definition's own, so the calls' equations in turn make the row.
 use borrow.Author.Needs.{needs}
 use native.Mathlib.Omega.{arith}
-use Rattle.elf.specs.Header.{gateOf}
 use Rattle.elf.proofs.header.validate_header.Statement.{statement}
 use Rattle.elf.proofs.header.validate_header.Tie as tie
 
 stand-within-requires : tie.Need-stand-within-requires
 stand-within-requires c κs =
-    let at-read-u162 = c .before .before .before .before .before .before .before .before .before .before .before .before .before .before .before .before .before in
+    let at-read-u162 = c .before .before .before .before .before .before .before .before .before .before .before .before .before .before in
     omega (arith, at-read-u162 .read-u162 .ensures .small)
 
 returns : tie.Need-returns
-unfolding gateOf
 returns c =
     let at-sum-fits = c .before .before .before in
     let at-amount2 = at-sum-fits .before in
-    let at-require8 = at-amount2 .before in
-    let at-amount = at-require8 .before in
-    let at-require7 = at-amount .before in
-    let at-require6 = at-require7 .before in
-    let at-require5 = at-require6 .before in
-    let at-byte-at = at-require5 .before in
-    let at-require4 = at-byte-at .before in
-    let at-is-tag = at-require4 .before in
-    let at-require3 = at-is-tag .before .before in
-    let at-require2 = at-require3 .before in
-    let at-is-allowed2 = at-require2 .before in
-    let at-require = at-is-allowed2 .before in
-    let at-is-allowed = at-require .before in
-    let at-read-u162 = at-is-allowed .before in
+    let at-require6 = at-amount2 .before in
+    let at-amount = at-require6 .before in
+    let at-require5 = at-amount .before in
+    let at-require4 = at-require5 .before in
+    let at-require3 = at-require4 .before in
+    let at-byte-at = at-require3 .before in
+    let at-require2 = at-byte-at .before in
+    let at-is-tag = at-require2 .before in
+    let at-require = at-is-tag .before .before in
+    let at-ask = at-require .before in
+    let at-read-u162 = at-ask .before in
     let at-read-u16 = at-read-u162 .before in
     let at-read-u642 = at-read-u16 .before in
     let at-read-u64 = at-read-u642 .before in
     rw (
-      c .require10 .ensures,
+      c .require8 .ensures,
       c .before .stand-within .ensures,
-      c .before .before .require9 .ensures,
+      c .before .before .require7 .ensures,
       at-sum-fits .sum-fits .ensures,
       at-amount2 .amount2 .ensures,
-      at-require8 .require8 .ensures,
-      at-amount .amount .ensures,
-      at-require7 .require7 .ensures,
       at-require6 .require6 .ensures,
+      at-amount .amount .ensures,
       at-require5 .require5 .ensures,
-      at-byte-at .byte-at .ensures .value,
       at-require4 .require4 .ensures,
-      at-is-tag .is-tag .ensures,
       at-require3 .require3 .ensures,
+      at-byte-at .byte-at .ensures .value,
       at-require2 .require2 .ensures,
-      at-is-allowed2 .is-allowed2 .ensures,
+      at-is-tag .is-tag .ensures,
       at-require .require .ensures,
-      at-is-allowed .is-allowed .ensures,
+      at-ask .ask .ensures,
       at-read-u162 .read-u162 .ensures .value,
       at-read-u16 .read-u16 .ensures .value,
       at-read-u642 .read-u642 .ensures .value,
@@ -61,9 +53,6 @@ pub validate-header-spec : {M : Type 1} → statement M
 validate-header-spec =
     tie.close
     (tie.spec
-    (λ c κs. search needs)
-    (λ c κs. search needs)
-    (λ c κs. search needs)
     (λ c κs. search needs)
     (λ c κs. search needs)
     (λ c κs. search needs)

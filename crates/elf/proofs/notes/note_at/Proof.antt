@@ -33,12 +33,12 @@ returns-3 c =
 returns-4 : tie.Need-returns-4
 unfolding turnAt pick
 returns-4 c =
-    let note = c .before .before .before .before .before .before .before .before .read-note-header .ensures in
+    let note = c .before .before .before .before .before .before .before .read-note-header .ensures in
     rw (
       ← note,
-      held (c .before .before .before .before .before .before .before .is-wanted .ensures) (c .before .before .before .before .before .before .if1 .left),
-      held (c .before .before .before .before .before .within .ensures) (c .before .before .before .before .if2 .left),
-      held (c .before .before .is-tag .ensures) (c .before .if3 .left),
+      held (c .before .before .before .before .before .before .is-wanted .ensures) (c .before .before .before .before .before .if1 .left),
+      held (c .before .before .before .before .within .ensures) (c .before .before .before .if2 .left),
+      held (c .before .is-tag .ensures) (c .if3 .left),
     )
 
 pub note-at-spec : {M : Type 1} → statement M
@@ -57,6 +57,5 @@ note-at-spec =
     (λ c κs. search needs)
     (λ c κs. search needs)
     returns-3
-    (λ c. search needs)
     (λ c. search needs)
     returns-4)

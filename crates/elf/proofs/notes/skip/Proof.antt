@@ -1,4 +1,4 @@
--- `notes::skip`: both sizes tested, then rounded.
+-- `notes::skip`: both sizes tested, then rounded: they fit 32 bits.
 use borrow.Author.Needs.{needs}
 use borrow.Author.Tests.{le-leb, lt-leb}
 use Rattle.answers.specs.Pick.{pick}
@@ -16,7 +16,7 @@ returns-2 c = simp (le-leb _ _ (c .before .before .if1 .left), lt-leb _ _ (c .if
 
 returns-3 : tie.Need-returns-3
 unfolding skipOf pick
-returns-3 c = simp (le-leb _ _ (c .before .before .before .before .if1 .left), le-leb _ _ (c .before .before .if2 .left), c .align-up2 .ensures, c .before .align-up .ensures)
+returns-3 c = simp (le-leb _ _ (c .before .before .before .before .before .before .if1 .left), le-leb _ _ (c .before .before .before .before .if2 .left), c .align-up2 .ensures, c .before .before .align-up .ensures)
 
 pub skip-spec : {M : Type 1} → statement M
 skip-spec =
@@ -24,8 +24,10 @@ skip-spec =
     (tie.spec
     returns
     returns-2
-    (λ c κs. search needs)
-    (λ c κs. search needs)
+    (λ c. search needs)
+    (λ c κs. tt)
+    (λ c. search needs)
+    (λ c κs. tt)
     (λ c. search needs)
     (λ c. search needs)
     returns-3)

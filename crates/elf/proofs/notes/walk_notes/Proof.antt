@@ -8,7 +8,7 @@ use Rattle.fields.proofs.RangesLaws.{within-sum}
 use lib.ListN.{length}
 use Rattle.answers.proofs.PickLaws.{failed, held}
 use Rattle.elf.specs.Notes.{walkFrom, walkOf, twelves}
-use Rattle.elf.proofs.NotesLaws.{longestNote, strides, walk-turn, walk-short, walk-end}
+use Rattle.elf.proofs.NotesLaws.{longestNote, strides, walk-through, walk-short, walk-end}
 use Rattle.elf.proofs.notes.walk_notes.Statement.{statement}
 use Rattle.elf.proofs.notes.walk_notes.Tie as tie
 
@@ -40,16 +40,18 @@ unfolding walkOf
 returns-2 c =
     let args = c .before .before .before .before .before .before .before .before .before .args in
     let at-turn = c .before .before .before .before .before .before .before .loop in
+    let stands = held (c .before .before .before .before .before .within .ensures) (c .before .before .before .before .if1 .left) in
     let told = sym (c .before .before .before .note-at .ensures) ∙ c .before .turn .given .1 in
-    sym (walk-turn (args .image .now) (args .p-offset .0) (args .p-filesz) (at-turn .read) (at-turn .headers) (twelves (args .p-filesz) - (at-turn .headers + 1)) (at-turn .headers + 1) (omega arith) (omega arith) (omega arith) (held (c .before .before .before .before .before .within .ensures) (c .before .before .before .before .if1 .left)) told) ∙ at-turn .inv .2
+    walk-through (args .image .now) (args .p-offset .0) (args .p-filesz) (at-turn .read) (at-turn .headers) (at-turn .inv .0) (omega arith) stands told (at-turn .inv .2)
 
 returns-3 : tie.Need-returns-3 Inv-loop μ-loop
 unfolding walkOf
 returns-3 c =
     let args = c .before .before .before .before .before .before .before .before .before .args in
     let at-turn = c .before .before .before .before .before .before .before .loop in
+    let stands = held (c .before .before .before .before .before .within .ensures) (c .before .before .before .before .if1 .left) in
     let told = sym (c .before .before .before .note-at .ensures) ∙ c .before .turn2 .given .1 in
-    sym (walk-turn (args .image .now) (args .p-offset .0) (args .p-filesz) (at-turn .read) (at-turn .headers) (twelves (args .p-filesz) - (at-turn .headers + 1)) (at-turn .headers + 1) (omega arith) (omega arith) (omega arith) (held (c .before .before .before .before .before .within .ensures) (c .before .before .before .before .if1 .left)) told) ∙ at-turn .inv .2
+    walk-through (args .image .now) (args .p-offset .0) (args .p-filesz) (at-turn .read) (at-turn .headers) (at-turn .inv .0) (omega arith) stands told (at-turn .inv .2)
 
 add-read : tie.Need-add-read Inv-loop μ-loop
 add-read c =
@@ -72,10 +74,14 @@ loop-again : tie.Need-loop-again Inv-loop μ-loop
 loop-again c =
     let args = c .before .before .before .before .before .before .before .before .before .args in
     let at-turn = c .before .before .before .before .before .before .before .loop in
+    let stands = held (c .before .before .before .before .before .within .ensures) (c .before .before .before .before .if1 .left) in
     let told = sym (c .before .before .before .note-at .ensures) ∙ c .before .turn3 .given .1 in
     let stride = strides (args .image .now) (args .p-offset .0 + at-turn .read) told in
-    let stands = within-sum _ _ _ (held (c .before .before .before .before .before .within .ensures) (c .before .before .before .before .if1 .left)) in
-    (omega arith, omega arith, sym (walk-turn (args .image .now) (args .p-offset .0) (args .p-filesz) (at-turn .read) (at-turn .headers) (twelves (args .p-filesz) - (at-turn .headers + 1)) (at-turn .headers + 1) (omega arith) (omega arith) (omega arith) (held (c .before .before .before .before .before .within .ensures) (c .before .before .before .before .if1 .left)) told) ∙ at-turn .inv .2)
+    let inside = within-sum _ _ _ stands in (
+      omega arith,
+      omega arith,
+      walk-through (args .image .now) (args .p-offset .0) (args .p-filesz) (at-turn .read) (at-turn .headers) (at-turn .inv .0) (omega arith) stands told (at-turn .inv .2),
+    )
 
 returns-4 : tie.Need-returns-4 Inv-loop μ-loop
 unfolding walkOf

@@ -2,8 +2,10 @@
 use borrow.Author.Needs.{needs}
 use mathlib.Core.Path.{sym, _∙_}
 use native.Mathlib.Omega.{arith}
-use Rattle.elf.proofs.HeaderLaws.{open-sum, open-headers}
-use Rattle.elf.proofs.SurveyLaws.{plan-open, plan-shut}
+use Rattle.answers.proofs.TestsLaws.{open-all}
+use Rattle.elf.specs.Header.{tests}
+use Rattle.elf.proofs.HeaderLaws.{load-fits, headers-stand}
+use Rattle.elf.proofs.PouringLaws.{planned-shut, planned-open}
 use Rattle.elf.proofs.survey.plan_load.Statement.{statement}
 use Rattle.elf.proofs.survey.plan_load.Tie as tie
 
@@ -11,27 +13,29 @@ add-load : tie.Need-add-load
 add-load c =
     let args = c .before .before .before .before .before .before .args in
     let opened = sym (c .before .before .before .before .validate-header .ensures) ∙ c .before .before .enum-told .given .1 in
-    let sum = open-sum (args .image .now) (args .guest-len) (args .offset) (args .highmem) opened in
+    let hold = open-all (tests (args .image .now) (args .memory) (args .offset) (args .highmem)) opened in
+    let sum = load-fits (args .image .now) (args .memory) (args .offset) (args .highmem) hold in
     omega (arith, c .read-u64 .ensures .value, c .before .amount .ensures)
 
 survey-requires : tie.Need-survey-requires
 survey-requires c κs =
     let args = c .before .before .before .before .before .before .before .args in
     let opened = sym (c .before .before .before .before .before .validate-header .ensures) ∙ c .before .before .before .enum-told .given .1 in
-    rw (c .read-u16 .ensures .value) (open-headers (args .image .now) (args .guest-len) (args .offset) (args .highmem) opened)
+    let hold = open-all (tests (args .image .now) (args .memory) (args .offset) (args .highmem)) opened in
+    rw (c .read-u16 .ensures .value) (headers-stand (args .image .now) (args .memory) (args .offset) (args .highmem) hold)
 
 returns : tie.Need-returns
 returns c =
     let args = c .before .before .before .before .before .args in
     let shut = sym (c .before .before .before .validate-header .ensures) ∙ c .before .gate .given .1 in
-    sym (plan-shut (args .image .now) (args .guest-len) (args .offset) (args .highmem) shut)
+    planned-shut (args .image .now) (args .memory) (args .offset) (args .highmem) shut
 
 returns-2 : tie.Need-returns-2
 returns-2 c =
     let args = c .before .before .before .before .before .before .before .before .args in
     let opened = sym (c .before .before .before .before .before .before .validate-header .ensures) ∙ c .before .before .before .before .enum-told .given .1 in
-    rw (c .survey .ensures, c .before .read-u16 .ensures .value, c .before .before .read-u64 .ensures .value, c .before .before .before .amount .ensures)
-    (sym (plan-open (args .image .now) (args .guest-len) (args .offset) (args .highmem) opened))
+    planned-open (args .image .now) (args .memory) (args .offset) (args .highmem) opened (c .survey .ensures) (c .before .read-u16 .ensures .value)
+    (c .before .before .read-u64 .ensures .value) (c .before .before .before .amount .ensures)
 
 pub plan-load-spec : {M : Type 1} → statement M
 plan-load-spec =

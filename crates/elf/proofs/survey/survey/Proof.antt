@@ -6,15 +6,15 @@ use native.Mathlib.Omega.{arith}
 use native.Mathlib.Nat.{sub-zero}
 use native.Mathlib.Numerals.{add-one}
 use Rattle.elf.specs.Survey.{surveyFrom}
-use Rattle.elf.proofs.SurveyLaws.{survey-step, survey-end}
+use Rattle.elf.proofs.SurveyLaws.{survey-turn, survey-end}
 use Rattle.elf.proofs.survey.survey.Statement.{statement}
 use Rattle.elf.proofs.survey.survey.Tie as tie
 
 abbrev Inv-loop : tie.InvT-loop
-Inv-loop image guest-len offset n result₀ i₀ result i = (i ≤ n) × (surveyFrom (n - i) image guest-len offset i result ≡ surveyFrom n image guest-len offset 0 result₀)
+Inv-loop image memory offset n result₀ i₀ result i = (i ≤ n) × (surveyFrom (n - i) image memory offset i result ≡ surveyFrom n image memory offset 0 result₀)
 
 abbrev μ-loop : tie.MeasureT-loop
-μ-loop image guest-len offset n result₀ i₀ result i = n - i
+μ-loop image memory offset n result₀ i₀ result i = n - i
 
 read-header-requires : tie.Need-read-header-requires Inv-loop μ-loop
 read-header-requires c κs = c .before .before .before .pre .stands (c .before .loop .i) (omega arith)
@@ -23,25 +23,32 @@ returns : tie.Need-returns Inv-loop μ-loop
 returns c =
     let args = c .before .before .before .before .before .before .before .before .args in
     let at-turn = c .before .before .before .before .before .before .loop in
-    sym (survey-step (args .image .now) (args .guest-len) (args .offset) (at-turn .i) (at-turn .result) (args .n - (at-turn .i + 1)) (at-turn .i + 1) (omega arith) (omega arith) (c .before .before .before .before .read-header .ensures) (c .before .before .before .examine .ensures) (c .before .step2 .given .1)) ∙ at-turn .inv .1
+    survey-turn (args .image .now) (args .memory) (args .offset) (at-turn .i) (at-turn .result) (omega arith)
+    (c .before .before .before .before .read-header .ensures) (c .before .before .before .examine .ensures) (c .before .step2 .given .1) (at-turn .inv .1)
 
 returns-2 : tie.Need-returns-2 Inv-loop μ-loop
 returns-2 c =
     let args = c .before .before .before .before .before .before .before .before .args in
     let at-turn = c .before .before .before .before .before .before .loop in
-    rw add-one (sym (survey-step (args .image .now) (args .guest-len) (args .offset) (at-turn .i) (at-turn .result) (args .n - (at-turn .i + 1)) (at-turn .i + 1) (omega arith) (omega arith) (c .before .before .before .before .read-header .ensures) (c .before .before .before .examine .ensures) (c .before .step3 .given .1)) ∙ at-turn .inv .1)
+    rw add-one
+    (survey-turn (args .image .now) (args .memory) (args .offset) (at-turn .i) (at-turn .result) (omega arith)
+    (c .before .before .before .before .read-header .ensures) (c .before .before .before .examine .ensures) (c .before .step3 .given .1) (at-turn .inv .1))
 
 loop-again : tie.Need-loop-again Inv-loop μ-loop
 loop-again c =
     let args = c .before .before .before .before .before .before .before .before .before .args in
-    let at-turn = c .before .before .before .before .before .before .before .loop in
-    (omega arith, rw (c .advance .ensures) (sym (survey-step (args .image .now) (args .guest-len) (args .offset) (at-turn .i) (at-turn .result) (args .n - (at-turn .i + 1)) (at-turn .i + 1) (omega arith) (omega arith) (c .before .before .before .before .before .read-header .ensures) (c .before .before .before .before .examine .ensures) (c .before .before .step .given .1)) ∙ at-turn .inv .1))
+    let at-turn = c .before .before .before .before .before .before .before .loop in (
+      omega arith,
+      rw (c .advance .ensures)
+          (survey-turn (args .image .now) (args .memory) (args .offset) (at-turn .i) (at-turn .result) (omega arith)
+          (c .before .before .before .before .before .read-header .ensures) (c .before .before .before .before .examine .ensures) (c .before .before .step .given .1) (at-turn .inv .1)),
+    )
 
 returns-3 : tie.Need-returns-3 Inv-loop μ-loop
 returns-3 c =
     let args = c .before .before .before .args in
     let at-end = c .before .loop in
-    survey-end (args .image .now) (args .guest-len) (args .offset) (at-end .i) (at-end .result) (omega arith) (omega arith) ∙ at-end .inv .1
+    survey-end (args .image .now) (args .memory) (args .offset) (at-end .i) (at-end .result) (omega arith) (omega arith) ∙ at-end .inv .1
 
 pub survey-spec : {M : Type 1} → statement M
 survey-spec =

@@ -48,7 +48,7 @@ use Rattle.guest.proofs.ImagePlace.Laws as P′
 use Rattle.reading.specs.declared.NoteHeader.{NoteHeader}
 use Rattle.reading.specs.declared.Reader.{Reader}
 use Rattle.reading.specs.declared.Taken.{Taken}
-use Rattle.reading.specs.Notes.{NoteHeaderRead}
+use Rattle.reading.specs.Notes.{noteHeaderOf}
 use Rattle.reading.specs.Readers.{readerAt, Takes}
 use Rattle.reading.proofs.NoteHeader as N
 use Rattle.reading.proofs.NoteHeader.Laws as N′
@@ -139,9 +139,9 @@ module _ {M : Type 1} (𝓤 : URA M) (H : Heap 𝓤) (A : Atoms 𝓤) (W : Given
   taken-fits t is = LL.owed (K.the-type α) (K′.the-laws α) t _ is .0 .1
 
   abbrev made : Taken → Taken → Taken → NoteHeader
-  made name desc kind = record { namesz = name .value; descsz = desc .value; kind = kind .value }
+  made name desc kind = record { «n_namesz» = name .value; «n_descsz» = desc .value; «n_type» = kind .value }
 
-  exits : (name desc kind : Taken) → name .value < 2 ^ 64 → desc .value < 2 ^ 64 → kind .value < 2 ^ 64 → NoteHeaderRead (now s) (at .0) (made name desc kind)
+  exits : (name desc kind : Taken) → name .value < 2 ^ 64 → desc .value < 2 ^ 64 → kind .value < 2 ^ 64 → made name desc kind ≡ noteHeaderOf (now s) (at .0)
       → ent 𝓤 (⋆ 𝓤 H A ((‵ (flft κ q) ⊛ ‵ ftrue) ∷ ‵ Own ∷ [])) (Post (N′.lowered (made name desc kind)))
   exits name desc kind fits₁ fits₂ fits₃ read =
       qed W ((‵ (flft κ q) ⊛ ‵ ftrue) ∷ ‵ Own ∷ []) ∵

@@ -1,0 +1,358 @@
+//! Cases at the edges of the rules, each with what is to be answered: more of them than the worked examples, and as easy to read.
+
+use crate::examples::{pvh_note, small_bzimage, small_elf};
+use crate::question::{Call, Load, Question, Walk};
+
+/// A question, and the answer to it in the short form of the test below.
+pub type Case = (Question, &'static str);
+
+/// Every case.
+pub fn all() -> Vec<Case> {
+    [
+        elf(),
+        notes(),
+        bzimage(),
+        lines(),
+        lists_and_devices(),
+        equal(),
+    ]
+    .concat()
+}
+
+/// A guest in which each byte is 7 before the load.
+fn into_sevens(mut load: Load, length: usize) -> Load {
+    load.guest = vec![7; length];
+    load
+}
+
+fn elf() -> Vec<Case> {
+    let case = |change: &dyn Fn(&mut Load), told| {
+        let mut load = into_sevens(small_elf(), 20);
+        change(&mut load);
+        (Question::Elf(load), told)
+    };
+    let edited = |place: usize, byte: u8, told| case(&|load| load.image[place] = byte, told);
+    vec![
+        case(&|_| {}, "elf ok 16 24 pvh ignored, 16 to 18 changed"),
+        // the last offset that has room, and the one after it
+        case(
+            &|load| load.options.offset = Some(1),
+            "elf ok 17 25 pvh ignored, 17 to 19 changed",
+        ),
+        case(
+            &|load| load.options.offset = Some(2),
+            "elf refused 10, nothing changed",
+        ),
+        case(
+            &|load| load.options.highmem = Some(17),
+            "elf refused 5, nothing changed",
+        ),
+        case(
+            &|load| load.options.offset = Some(u64::MAX),
+            "elf refused 6, nothing changed",
+        ),
+        // no magic number; two program headers, of which one is cut off
+        edited(1, 0, "elf refused 1, nothing changed"),
+        edited(56, 2, "elf refused 8, nothing changed"),
+        // no file bytes; one more than the image has; a program header of another type
+        edited(96, 0, "elf ok 16 0 pvh ignored, nothing changed"),
+        edited(96, 4, "elf refused 10, nothing changed"),
+        edited(64, 2, "elf ok 16 0 pvh ignored, nothing changed"),
+    ]
+}
+
+fn notes() -> Vec<Case> {
+    let walk = |image: &[u8], size, told| {
+        let (place, image) = (0, image.to_vec());
+        (Question::Note(Walk { place, size, image }), told)
+    };
+    vec![
+        walk(&pvh_note(), 0, "note ok pvh none headers 0"),
+        walk(&small_elf().image, 100, "note ok pvh none headers 1"),
+    ]
+}
+
+/// The small bzImage at 16, with a last header byte and one after it that can be told apart. Its setup has one sector beside the first.
+fn bzimage_at_16() -> Load {
+    let mut load = into_sevens(small_bzimage(), 32);
+    load.image[0x214] = 16;
+    load.image[0x211] = 0x81;
+    load.image[0x26b] = 0x77;
+    load.image[0x26c] = 0x78;
+    load
+}
+
+/// The same with a setup of 0 sectors, which means 4, of a length; the kernel's three bytes stand at 2560.
+fn four_sectors(length: usize) -> Load {
+    let mut load = bzimage_at_16();
+    let kernel = load.image.split_off(1024);
+    load.image[0x1f1] = 0;
+    load.image.resize(2560, 0);
+    load.image.extend(kernel);
+    load.image.truncate(length);
+    load
+}
+
+fn bzimage() -> Vec<Case> {
+    let given = |offset: Option<u64>, highmem: Option<u64>, told| {
+        let mut load = bzimage_at_16();
+        (load.options.offset, load.options.highmem) = (offset, highmem);
+        (Question::Bzimage(load), told)
+    };
+    let edited = |edits: &[(usize, u8)], told| {
+        let mut load = bzimage_at_16();
+        for (place, byte) in edits {
+            load.image[*place] = *byte;
+        }
+        (Question::Bzimage(load), told)
+    };
+    let cut = |length: usize, told| {
+        let mut load = bzimage_at_16();
+        load.image.truncate(length);
+        (Question::Bzimage(load), told)
+    };
+    let mut without_kernel = four_sectors(2560);
+    without_kernel.options.offset = Some(999);
+    vec![
+        (
+            Question::Bzimage(four_sectors(2563)),
+            "bzimage ok 16 19 header 00..48..10000000..77, 16 to 18 changed",
+        ),
+        (
+            Question::Bzimage(without_kernel),
+            "bzimage ok 999 999 header 00..48..e7030000..77, nothing changed",
+        ),
+        (
+            Question::Bzimage(four_sectors(2559)),
+            "bzimage refused 22, nothing changed",
+        ),
+        given(
+            Some(17),
+            None,
+            "bzimage ok 17 20 header 01..48..11000000..77, 17 to 19 changed",
+        ),
+        // the last offset that has room, the one after it, and the greatest of all
+        given(
+            Some(29),
+            None,
+            "bzimage ok 29 32 header 01..48..1d000000..77, 29 to 31 changed",
+        ),
+        given(Some(30), None, "bzimage refused 24, nothing changed"),
+        given(Some(u64::MAX), None, "bzimage refused 24, nothing changed"),
+        // high memory is compared with code32_start, whatever the offset is
+        given(
+            Some(4),
+            Some(16),
+            "bzimage ok 4 7 header 01..48..04000000..77, 4 to 6 changed",
+        ),
+        given(Some(17), Some(17), "bzimage refused 23, nothing changed"),
+        // no bytes; up to the flags; up to code32_start
+        cut(0, "bzimage refused 21, nothing changed"),
+        cut(0x211, "bzimage refused 21, nothing changed"),
+        cut(0x214, "bzimage refused 22, nothing changed"),
+        // version 1.15, version 2.00, and not loaded high
+        edited(&[(0x207, 1)], "bzimage refused 21, nothing changed"),
+        edited(
+            &[(0x206, 0), (0x207, 2)],
+            "bzimage ok 16 19 header 01..48..10000000..77, 16 to 18 changed",
+        ),
+        edited(&[(0x211, 0x80)], "bzimage refused 21, nothing changed"),
+    ]
+}
+
+fn new(capacity: u32) -> Call {
+    Call::New { capacity }
+}
+
+fn slug(text: &str) -> Call {
+    Call::InsertStr(text.into())
+}
+
+fn init(text: &str) -> Call {
+    Call::InsertInitArgs(text.into())
+}
+
+fn insert(key: &str, value: &str) -> Call {
+    let (key, value) = (key.into(), value.into());
+    Call::Insert { key, value }
+}
+
+fn from(text: &str, capacity: u32) -> Call {
+    let text = text.into();
+    Call::TryFrom { capacity, text }
+}
+
+/// Calls, and then the line written.
+fn line(calls: &[Call], told: &'static str) -> Case {
+    let written = Call::AsCstring { room: 100 };
+    (Question::Line([calls, &[written]].concat()), told)
+}
+
+fn lines() -> Vec<Case> {
+    let inserted = |key, value, told| line(&[new(100), insert(key, value)], told);
+    vec![
+        line(&[new(0)], "line 41 []"),
+        line(&[new(1)], "line ok []"),
+        line(&[new(4096)], "line ok []"),
+        line(&[new(4097)], "line 41 []"),
+        // which test of a key comes first, and which of a value
+        inserted("a\x01 =", "", "line ok 42 []"),
+        inserted("a =", "", "line ok 43 []"),
+        inserted("a=b", "", "line ok 44 []"),
+        inserted("a", "b\x7f", "line ok 42 []"),
+        inserted("a", "b\"c", "line ok 49 []"),
+        inserted("a", "b c", "line ok 48 []"),
+        inserted("a", "\"b c\"", "line ok ok [a=\"b c\"]"),
+        inserted("a", "\"", "line ok ok [a=\"]"),
+        line(
+            &[new(100), slug("x"), insert("", "")],
+            "line ok ok ok [x =]",
+        ),
+        line(
+            &[new(100), slug("\t\n\x0b\x0c\r a b \r\n")],
+            "line ok ok [a b]",
+        ),
+        line(&[new(100), slug("\x1fa")], "line ok 42 []"),
+        line(
+            &[new(100), slug("foo"), init("bar"), init("baz")],
+            "line ok ok ok ok [foo -- bar baz]",
+        ),
+        line(&[new(100), init("x")], "line ok ok 50"),
+        line(&[from(" a --  ", 3)], "line ok [a]"),
+        line(&[from(" ", 1)], "line ok []"),
+        line(&[from(" -- z", 100)], "line ok 50"),
+        line(&[from("a\0b", 100)], "line ok 51"),
+        line(&[from("", 0)], "line 41 []"),
+        // a lent output without room for the zero, which is left as it was
+        (
+            Question::Line(vec![new(100), slug("foo"), Call::AsCstring { room: 3 }]),
+            "line ok ok 62",
+        ),
+    ]
+}
+
+fn lists_and_devices() -> Vec<Case> {
+    let list = |capacity, values: &str, ends: &[u32], told| {
+        let (key, values, ends) = (b"foo".to_vec(), values.into(), ends.to_vec());
+        let list = Call::InsertMultiple { key, ends, values };
+        line(&[new(capacity), list], told)
+    };
+    let device = |capacity, size, address, irq, id, told| {
+        let device = Call::AddDevice {
+            size,
+            address,
+            irq,
+            id,
+        };
+        line(&[new(capacity), device], told)
+    };
+    vec![
+        list(100, "barbaz", &[3, 6], "line ok ok [foo=bar,baz]"),
+        list(100, "barbaz", &[6, 3], "line ok 61 []"),
+        list(100, "barbaz", &[], "line ok 45 []"),
+        list(100, "a\"b\"", &[2, 4], "line ok ok [foo=a\",b\"]"),
+        list(11, "barbaz", &[3, 6], "line ok 47 []"),
+        list(12, "barbaz", &[3, 6], "line ok ok [foo=bar,baz]"),
+        device(100, 0, 4096, 5, None, "line ok 46 []"),
+        device(
+            100,
+            3 << 30,
+            0,
+            0,
+            None,
+            "line ok ok [virtio_mmio.device=3G@0x0:0]",
+        ),
+        device(
+            100,
+            5 << 20,
+            0xfedc_ba98,
+            10,
+            None,
+            "line ok ok [virtio_mmio.device=5M@0xfedcba98:10]",
+        ),
+        device(
+            100,
+            1025,
+            1,
+            1,
+            Some(0),
+            "line ok ok [virtio_mmio.device=1025@0x1:1:0]",
+        ),
+        // the longest text: 80 bytes, and the zero
+        device(
+            81,
+            u64::MAX,
+            u64::MAX,
+            u32::MAX,
+            Some(u32::MAX),
+            "line ok ok [virtio_mmio.device=18446744073709551615@0xffffffffffffffff:4294967295:4294967295]",
+        ),
+    ]
+}
+
+/// Two lines, and whether they are equal.
+fn equal() -> Vec<Case> {
+    let both = |one: &[Call], other: &[Call], told| {
+        let calls = [one, &[Call::Keep], other, &[Call::IsEqual]].concat();
+        (Question::Line(calls), told)
+    };
+    let text = |text| [from(text, 50)];
+    let foo_bar = [new(100), slug("foo"), init("bar")];
+    vec![
+        both(&foo_bar, &text("foo -- bar"), "line ok ok ok ok ok equal"),
+        both(
+            &[new(100), slug("foo -- bar")],
+            &text("foo -- bar"),
+            "line ok ok ok ok equal",
+        ),
+        both(&foo_bar, &text("foo -- baz"), "line ok ok ok ok ok unequal"),
+        both(&text(" -- x"), &text(" -- y"), "line ok ok ok equal"),
+        both(&text("a\0"), &text("\0b"), "line ok ok ok equal"),
+        both(&text("a\0"), &text(" -- y"), "line ok ok ok unequal"),
+        both(&[new(1)], &[new(2)], "line ok ok ok equal"),
+    ]
+}
+
+#[cfg(test)]
+mod tests {
+    use super::*;
+    use crate::over_second;
+
+    /// An answer as it is easy to read: which guest bytes changed, without their sum; of a setup header its first byte, that of its
+    /// magic number, code32_start and the last; of a written line its text.
+    fn in_short(line: &str) -> String {
+        let (told, guest) = line.split_once(" guest ").unwrap_or((line, ""));
+        let mut short = Vec::new();
+        let mut words = told.split(' ');
+        while let Some(word) = words.next() {
+            if word == "header" {
+                let hex = words.next().unwrap();
+                assert_eq!(hex.len(), 2 * 123);
+                let part = |from: usize, to: usize| &hex[2 * from..2 * to];
+                let parts = [part(0, 1), part(17, 18), part(35, 39), part(122, 123)];
+                short.push(format!("header {}", parts.join("..")));
+            } else if let Some(hex) = word.strip_prefix("ok:") {
+                let bytes = (0..hex.len()).step_by(2);
+                let bytes = bytes.map(|at| u8::from_str_radix(&hex[at..at + 2], 16).unwrap());
+                let text = String::from_utf8(bytes.collect()).unwrap();
+                short.push(format!("[{}]", text.strip_suffix('\0').unwrap()));
+            } else {
+                short.push(word.to_string());
+            }
+        }
+        let short = short.join(" ");
+        match guest.split(' ').collect::<Vec<_>>()[..] {
+            [_, _, "0", _, _] => short + ", nothing changed",
+            [_, _, _, first, last] => format!("{short}, {first} to {last} changed"),
+            _ => short,
+        }
+    }
+
+    #[test]
+    fn the_second_program_answers_every_case() {
+        for (question, told) in all() {
+            let line = over_second::answer(&question).line(question.guest());
+            assert_eq!(in_short(&line), told, "{question:?}");
+        }
+    }
+}

@@ -1,0 +1,92 @@
+//! What stands in this crate a second time is what the repository has: the refusals and their numbers of the proved catalogue, and
+//! the numbers of the C header. It reads files of the repository, and so is no part of a package.
+
+use rekusoyen::{entry, Refusal};
+
+/// The definition that the proved code meets: a line for each refusal, `numberOf refusal.NAME = NUMBER`.
+const CATALOGUE: &str = include_str!("../../crates/answers/specs/Catalogue.antt");
+
+const HEADER: &str = include_str!("../../c/rekusoyen.h");
+
+/// Name and number of each refusal of the catalogue, in its order.
+fn catalogue() -> Vec<(String, u32)> {
+    let rows = CATALOGUE.lines().filter_map(|line| {
+        let (_, row) = line.split_once(" refusal.")?;
+        let (name, number) = row.split_once(" = ")?;
+        Some((name.to_string(), number.parse().ok()?))
+    });
+    rows.collect()
+}
+
+#[test]
+fn refusals_are_those_of_the_catalogue() {
+    let here = Refusal::ALL.iter();
+    let here: Vec<_> = here
+        .map(|refusal| (format!("{refusal:?}"), refusal.number()))
+        .collect();
+    assert_eq!(here, catalogue());
+}
+
+#[test]
+fn answers_of_the_header_are_those_of_the_catalogue() {
+    let rows = HEADER.lines().filter_map(|line| {
+        let (name, rest) = line.trim().strip_prefix("REKUSOYEN_")?.split_once(" = ")?;
+        let digits = rest.split(|c: char| !c.is_ascii_digit()).next()?;
+        Some((name.to_string(), digits.parse().ok()?))
+    });
+    let rows: Vec<(String, u32)> = rows.collect();
+    let accepted = [("ACCEPTED".to_string(), 0)];
+    let refused = catalogue()
+        .into_iter()
+        .map(|(name, number)| (in_capitals(&name), number));
+    let wanted: Vec<_> = accepted.into_iter().chain(refused).collect();
+    assert_eq!(rows, wanted);
+}
+
+/// InvalidElfMagicNumber becomes INVALID_ELF_MAGIC_NUMBER.
+fn in_capitals(name: &str) -> String {
+    let mut capitals = String::new();
+    for letter in name.chars() {
+        if letter.is_uppercase() && !capitals.is_empty() {
+            capitals.push('_');
+        }
+        capitals.extend(letter.to_uppercase());
+    }
+    capitals
+}
+
+/// What the header defines a name as.
+fn defined(name: &str) -> &'static str {
+    let line = HEADER
+        .lines()
+        .find_map(|line| line.strip_prefix(&format!("#define {name} ")));
+    let line = line.unwrap_or_else(|| panic!("the header does not define {name}"));
+    line.split("/*").next().unwrap_or(line).trim()
+}
+
+#[test]
+fn sizes_and_flags_are_those_of_the_header() {
+    let numbers = [
+        ("REKUSOYEN_LINE_LIMIT", entry::LIMIT.to_string()),
+        (
+            "REKUSOYEN_SETUP_HEADER_SIZE",
+            entry::SETUP_HEADER_SIZE.to_string(),
+        ),
+        (
+            "REKUSOYEN_OFFSET_GIVEN",
+            format!("{}u", entry::OFFSET_GIVEN),
+        ),
+        (
+            "REKUSOYEN_HIGHMEM_GIVEN",
+            format!("{}u", entry::HIGHMEM_GIVEN),
+        ),
+    ];
+    for (name, number) in numbers {
+        assert_eq!(defined(name), number, "{name}");
+    }
+    assert_eq!(
+        defined("REKUSOYEN_LINE_SIZE"),
+        "(24 + 2 * REKUSOYEN_LINE_LIMIT)"
+    );
+    assert_eq!(entry::LINE_SIZE, 24 + 2 * entry::LIMIT);
+}
