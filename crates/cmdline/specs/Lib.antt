@@ -11,4 +11,5 @@ pub mod InPlace
 pub mod ZeroPast
 pub mod Growing
 pub mod Keeping
+pub mod Answering
 pub mod Calls
