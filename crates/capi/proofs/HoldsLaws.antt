@@ -80,8 +80,7 @@ module _ (bytes : List ℕ) (t : Text) (h : Lines.Holds bytes t) where
   pub holds-line : Fits t → t .capacity ≤ limit → Lines.IsLine bytes
   unfolding Lines.lineTests
   holds-line fits most =
-      let least = size-boot (length (t .boot)) (length (t .init)) in
-      (
+      let least = size-boot (length (t .boot)) (length (t .init)) in (
         eq-eqb (length bytes) Lines.lineSize (h .size),
         (
           most-allowed (le 8 bytes 16) (rw (h .capacity) (omega arith)) (rw (h .capacity) most),
