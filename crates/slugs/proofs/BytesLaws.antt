@@ -22,11 +22,11 @@ pub both-right : (a b : Bool) → a && b ≡ true → b ≡ true
 both-right true b e = e
 both-right false b e = absurd (eqb-false 0 0 (sym e) refl)
 
-either-left : (a b : Bool) → a || b ≡ false → a ≡ false
+pub either-left : (a b : Bool) → a || b ≡ false → a ≡ false
 either-left true b e = e
 either-left false b e = refl
 
-either-right : (a b : Bool) → a || b ≡ false → b ≡ false
+pub either-right : (a b : Bool) → a || b ≡ false → b ≡ false
 either-right true b e = absurd (eqb-false 0 0 e refl)
 either-right false b e = e
 
