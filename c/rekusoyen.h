@@ -145,10 +145,10 @@ static inline const char *rekusoyen_answer_sentence(uint32_t answer)
 
 /*
  * The stack that a call uses at the most, beside what memcpy and memset themselves use: a load of an image or a note walk, and
- * a call on a line. Measured on x86-64 and on Arm, they use less than 512 bytes and less than 62,000.
+ * a call on a line. Measured on x86-64, each uses less than 512 bytes.
  */
 #define REKUSOYEN_LOAD_STACK_SIZE ((size_t)1024)
-#define REKUSOYEN_LINE_STACK_SIZE ((size_t)65536)
+#define REKUSOYEN_LINE_STACK_SIZE ((size_t)4096)
 
 /* ---- loads */
 
@@ -276,18 +276,19 @@ uint32_t rekusoyen_bzimage_load(
 /*
  * A kernel command line lives in REKUSOYEN_LINE_SIZE bytes that the caller owns and lends to each call: copied, moved and
  * dropped as any bytes. They hold three numbers of 8 bytes, least byte first (the length of the boot text, the length of the
- * init text, the capacity), then the boot text in REKUSOYEN_LINE_LIMIT bytes and the init text in as many, each followed by
- * zeros.
+ * init text, the capacity), then the boot text in REKUSOYEN_LINE_LIMIT bytes and the init text in as many.
  *
  * The counted size of a line is the length of its boot text + 1, and where there is init text 4 + its length more: what the
  * written line takes with its zero.
  *
- * Bytes hold a line where both lengths are at most REKUSOYEN_LINE_LIMIT, the capacity is 1 to REKUSOYEN_LINE_LIMIT, the counted
- * size is at most the capacity, and every byte past each text is 0; the texts may have any bytes. Every call but a making tests
- * this, whoever wrote the bytes; what an accepted call leaves holds a line.
+ * Bytes hold a line where the capacity is 1 to REKUSOYEN_LINE_LIMIT and the counted size is at most the capacity; the texts may
+ * have any bytes. Every call but a making tests this, whoever wrote the bytes; what an accepted call leaves holds a line.
  *
- * Every refused call leaves everything that it was lent as it was. An accepted call that is lent a line to change leaves all
- * its REKUSOYEN_LINE_SIZE bytes fixed: the texts that its comment names, zeros past them, and the capacity of the making.
+ * A call works on the bytes in place. What stands behind a text in its part has no say: it is not looked at, and stays as it
+ * is until a longer text covers it. A making leaves zeros there, and no call changes them to anything but text.
+ *
+ * Every refused call leaves everything that it was lent as it was. An accepted call that is lent a line to change changes the
+ * text that its comment names, from its first new byte on, and that text's length.
  */
 #define REKUSOYEN_LINE_LIMIT 4096
 #define REKUSOYEN_LINE_SIZE (24 + 2 * REKUSOYEN_LINE_LIMIT)

@@ -117,13 +117,49 @@ static const struct {
     {"a counted size above the capacity", CAPACITY, 8, 8},
     {"a boot text above the capacity", BOOT_LENGTH, 8, 64 - 6},
     {"an init text above the capacity", INIT_LENGTH, 8, 64 - 6},
-    {"a byte after the boot text", BOOT_TEXT + 2, 1, 'x'},
-    {"a byte at the end of the boot buffer", BOOT_TEXT + REKUSOYEN_LINE_LIMIT - 1, 1, 1},
-    {"a byte after the init text", INIT_TEXT + 2, 1, 'x'},
-    {"a byte at the end of the init buffer", INIT_TEXT + REKUSOYEN_LINE_LIMIT - 1, 1, 0xff},
-    {"a boot length below its text", BOOT_LENGTH, 8, 1},
-    {"an init length below its text", INIT_LENGTH, 8, 1},
 };
+
+/* Places behind the texts of the line `ab`, init text `yz`. */
+static const struct {
+    const char *what;
+    size_t place;
+} behind[] = {
+    {"a byte after the boot text", BOOT_TEXT + 2},
+    {"a byte at the end of the boot buffer", BOOT_TEXT + REKUSOYEN_LINE_LIMIT - 1},
+    {"a byte after the init text", INIT_TEXT + 2},
+    {"a byte at the end of the init buffer", INIT_TEXT + REKUSOYEN_LINE_LIMIT - 1},
+};
+
+/* What stands behind the texts has no part: each call is accepted, and leaves what it leaves of a line with zeros there, but for that byte. */
+static void check_behind(const char *what, size_t place, const struct call *call, const struct line *clean)
+{
+    struct line dirty = *clean;
+    dirty.bytes[place] = 0xff;
+    struct lent expected = lend_bytes(clean->bytes, sizeof clean->bytes), line = lend_bytes(dirty.bytes, sizeof dirty.bytes);
+    CHECK_ANSWER(what, make_call(what, call, &expected), REKUSOYEN_ACCEPTED);
+    CHECK_ANSWER(what, make_call(what, call, &line), REKUSOYEN_ACCEPTED);
+    uint8_t left[REKUSOYEN_LINE_SIZE];
+    memcpy(left, expected.bytes, sizeof left);
+    if (left[place] == 0) /* no text was put there */
+        left[place] = 0xff;
+    CHECK_LEFT(what, &line, left);
+    CHECK_LEFT(what, &expected, expected.bytes);
+}
+
+/* Written, compared and loaded alike, too. */
+static void check_behind_output(const char *what, size_t place, const struct line *clean)
+{
+    struct line dirty = *clean;
+    dirty.bytes[place] = 0xff;
+    uint8_t out[16] = {0}, guest[16] = {0};
+    uint64_t count = 0, same = 0;
+    CHECK_ANSWER(what, rekusoyen_line_as_cstring(dirty.bytes, sizeof dirty.bytes, out, sizeof out, &count, 1), REKUSOYEN_ACCEPTED);
+    CHECK(count == 9 && memcmp(out, "ab -- yz", 9) == 0, "%s: written as '%s'", what, (const char *)out);
+    CHECK_ANSWER(what, rekusoyen_line_load(guest, sizeof guest, 1, dirty.bytes, sizeof dirty.bytes), REKUSOYEN_ACCEPTED);
+    CHECK(memcmp(guest + 1, "ab -- yz", 9) == 0, "%s: loaded as '%s'", what, (const char *)guest + 1);
+    CHECK_ANSWER(what, rekusoyen_line_equal(dirty.bytes, sizeof dirty.bytes, clean->bytes, sizeof clean->bytes, &same, 1), REKUSOYEN_ACCEPTED);
+    CHECK(same == 1, "%s: a line is equal to one with the same texts", what);
+}
 
 /* Sizes that are not that of a line. */
 static const size_t sizes[] = {0, 1, 24, REKUSOYEN_LINE_SIZE - 1, REKUSOYEN_LINE_SIZE + 1, 2 * REKUSOYEN_LINE_SIZE};
@@ -148,6 +184,18 @@ void test_line_bytes(void)
         else
             bad.bytes[changes[i].place] = (uint8_t)changes[i].number;
         check_refused(changes[i].what, bad.bytes, sizeof bad.bytes, REKUSOYEN_INVALID_CAPACITY);
+    }
+    const struct call calls[] = {
+        {.function = INSERT, .text = T("k"), .value = T("v")},
+        {.function = INSERT_MULTIPLE, .text = T("k"), .value = T("vw"), .ends = {1, 2}, .ends_len = 2},
+        {.function = INSERT_STR, .text = T("s")},
+        {.function = INSERT_INIT_ARGS, .text = T("s")},
+        {.function = ADD_DEVICE, .size = 1},
+    };
+    for (size_t i = 0; i < sizeof behind / sizeof behind[0]; i++) {
+        for (size_t k = 0; k < sizeof calls / sizeof calls[0]; k++)
+            check_behind(behind[i].what, behind[i].place, &calls[k], &good);
+        check_behind_output(behind[i].what, behind[i].place, &good);
     }
     uint8_t bytes[2 * REKUSOYEN_LINE_SIZE] = {0};
     memcpy(bytes, good.bytes, sizeof good.bytes);

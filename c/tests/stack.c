@@ -1,4 +1,7 @@
-/* How much stack a call uses: it runs on a thread whose stack is filled before, and what is no longer as filled was used. */
+/*
+ * How much stack a call uses. It runs on a thread of the smallest stack that the system allows (16 KiB, where it allows that), which is filled
+ * before; what is no longer as filled was used.
+ */
 #include "check.h"
 #include "images.h"
 #include "tests.h"
@@ -6,12 +9,13 @@
 #include <pthread.h>
 #include <stdio.h>
 #include <stdlib.h>
+#include <unistd.h>
 
-#define STACK_SIZE ((size_t)1 << 20)
+#define SMALL_STACK ((size_t)16384)
 #define FILL 0xa7
 
-/* What is left unfilled below the frame that makes the call, for that frame itself. */
-#define OWN_FRAME 512
+/* What is left unfilled below the frame that fills. */
+#define OWN_FRAME 64
 
 static uint8_t line[REKUSOYEN_LINE_SIZE], other_line[REKUSOYEN_LINE_SIZE];
 static uint8_t guest[64], setup_header[REKUSOYEN_SETUP_HEADER_SIZE];
@@ -113,19 +117,25 @@ static const struct {
 static uint32_t answers[CALLS];
 static size_t used[CALLS];
 
+/* Fills the stack from its bottom up to this frame, which stands where that of a call will. */
+static __attribute__((noinline)) void fill(volatile uint8_t *bottom)
+{
+    volatile uint8_t *end = (uint8_t *)__builtin_frame_address(0) - OWN_FRAME;
+    while (bottom < end)
+        *bottom++ = FILL;
+}
+
 /* Makes each call with the stack below this frame filled, and looks how far down it was changed. */
 static void *measure(void *stack)
 {
-    volatile uint8_t here = 0, *bottom = stack;
-    const size_t free_size = (size_t)(&here - bottom), filled = free_size - OWN_FRAME;
+    volatile uint8_t *bottom = stack, *top = __builtin_frame_address(0);
     for (size_t i = 0; i < CALLS; i++) {
-        for (size_t at = 0; at < filled; at++)
-            bottom[at] = FILL;
+        fill(bottom);
         answers[i] = calls[i].make();
-        size_t kept = 0;
-        while (kept < filled && bottom[kept] == FILL)
+        volatile uint8_t *kept = bottom;
+        while (kept < top && *kept == FILL)
             kept++;
-        used[i] = free_size - kept;
+        used[i] = (size_t)(top - kept);
     }
     return NULL;
 }
@@ -137,16 +147,20 @@ void test_stack(void)
     pthread_t thread;
     elf = small_elf();
     bzimage = bz_image(1, 16, "k", 1);
-    const int started = posix_memalign(&stack, 65536, STACK_SIZE) == 0 && pthread_attr_init(&attributes) == 0 &&
-                        pthread_attr_setstack(&attributes, stack, STACK_SIZE) == 0 &&
+    const long least = sysconf(_SC_THREAD_STACK_MIN);
+    const size_t size = least > (long)SMALL_STACK ? (size_t)least : SMALL_STACK;
+    const int started = posix_memalign(&stack, 65536, size) == 0 && pthread_attr_init(&attributes) == 0 &&
+                        pthread_attr_setstack(&attributes, stack, size) == 0 &&
                         pthread_create(&thread, &attributes, measure, stack) == 0 && pthread_join(thread, NULL) == 0;
     CHECK(started, "a thread with a stack of its own ran");
     size_t most = 0;
     for (size_t i = 0; started && i < CALLS; i++) {
         CHECK_ANSWER(calls[i].name, answers[i], REKUSOYEN_ACCEPTED);
         CHECK(used[i] <= calls[i].limit, "%s used %zu bytes of stack", calls[i].name, used[i]);
+        if (getenv("REKUSOYEN_TELL_STACK"))
+            printf("c: %-38s %zu bytes of stack\n", calls[i].name, used[i]);
         most = used[i] > most ? used[i] : most;
     }
-    printf("c: a call used up to %zu bytes of stack\n", most);
+    printf("c: on a thread of %zu bytes, a call used up to %zu bytes of stack\n", size, most);
     free(stack);
 }

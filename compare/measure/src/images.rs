@@ -59,6 +59,17 @@ pub fn pairs(lines: usize, pairs: usize) -> Vec<Pairs> {
     (0..lines).map(line).collect()
 }
 
+/// The text of a full line: 180 words of boot text, and init text up to the last byte that a line of this capacity takes.
+pub fn full_text() -> String {
+    let words = |numbers: std::ops::Range<usize>| {
+        let word = |number| format!("name{number:03}=value{number:03}");
+        numbers.map(word).collect::<Vec<_>>().join(" ")
+    };
+    let mut text = format!("{} -- {} ", words(0..180), words(180..240));
+    text.push_str(&"x".repeat(CAPACITY - 1 - text.len()));
+    text
+}
+
 /// Bytes without a pattern that a copy gone wrong could keep, the same at each run: xorshift.
 fn bytes(count: usize) -> Vec<u8> {
     let mut state = 0x9e37_79b9_7f4a_7c15u64;

@@ -28,6 +28,10 @@ enum Given {
     Elf(Memory),
     BzImage(Memory),
     Insertions(Vec<Pairs>),
+    /// the text of a full line: made from it, written, put into guest memory
+    Parsing(String),
+    Writing(String),
+    Putting(String),
 }
 
 /// Is guest memory there when a load begins, or does each page cost a fault?
@@ -54,6 +58,21 @@ pub fn all() -> Vec<Work> {
             "1,000 insertions, into 5 lines",
             Given::Insertions(images::pairs(5, 200)),
         ),
+        (
+            "parse",
+            "try_from of a full line",
+            Given::Parsing(images::full_text()),
+        ),
+        (
+            "write",
+            "as_cstring of a full line",
+            Given::Writing(images::full_text()),
+        ),
+        (
+            "put",
+            "load_cmdline of a full line",
+            Given::Putting(images::full_text()),
+        ),
     ];
     let work = |(name, title, given)| Work { name, title, given };
     works.map(work).into()
@@ -61,7 +80,7 @@ pub fn all() -> Vec<Work> {
 
 impl Work {
     pub fn is_load(&self) -> bool {
-        !matches!(self.given, Given::Insertions(_))
+        matches!(self.given, Given::Elf(_) | Given::BzImage(_))
     }
 
     /// Does the work so often, and gives the time. What is made ready for a load does not count; the making of lines does.
@@ -76,6 +95,9 @@ impl Work {
             (Given::Insertions(lists), _) => {
                 timed(repetitions, || contestant.lines(black_box(lists)))
             }
+            (Given::Parsing(text), _) => timed(repetitions, || contestant.parsed(black_box(text))),
+            (Given::Writing(text), _) => timed(repetitions, contestant.writing(text)),
+            (Given::Putting(text), _) => timed(repetitions, contestant.putting(guest, text)),
             (_, Pages::Touched) => timed(repetitions, self.ready(contestant, guest)),
             (_, Pages::Untouched) => (0..repetitions)
                 .map(|_| timed(1, self.ready(contestant, &mut Memory::untouched(GUEST))))
@@ -87,7 +109,7 @@ impl Work {
         match &self.given {
             Given::Elf(image) => contestant.elf(guest, image),
             Given::BzImage(image) => contestant.bzimage(guest, image),
-            Given::Insertions(_) => unreachable!("insertions are no load"),
+            _ => unreachable!("a work on a line is no load"),
         }
     }
 
@@ -109,20 +131,28 @@ impl Work {
     }
 
     fn outcome(&self, contestant: &dyn Contestant) -> Outcome {
-        if let Given::Insertions(lists) = &self.given {
-            return Outcome::Built(contestant.lines(lists)());
-        }
         let mut guest = Memory::filled(GUEST, 0xa5);
+        match &self.given {
+            Given::Insertions(lists) => return Outcome::Built(contestant.lines(lists)()),
+            Given::Parsing(text) => return Outcome::Built(contestant.parsed(text)()),
+            Given::Writing(text) => return Outcome::Built(vec![contestant.writing(text)()]),
+            Given::Putting(text) => {
+                contestant.putting(&mut guest, text)();
+                return Outcome::Put(guest);
+            }
+            Given::Elf(_) | Given::BzImage(_) => {}
+        }
         let answer = self.ready(contestant, &mut guest)();
         Outcome::Loaded(answer, guest)
     }
 }
 
-/// What a work leaves: the answer and guest memory, or the texts of the lines.
+/// What a work leaves: the answer and guest memory, the texts of the lines, or guest memory alone.
 #[derive(PartialEq)]
 enum Outcome {
     Loaded(KernelLoaderResult, Memory),
     Built(Vec<Vec<u8>>),
+    Put(Memory),
 }
 
 /// Every contestant does every work: all give the same answer and leave the same bytes.
@@ -152,7 +182,7 @@ fn timed<T>(repetitions: u32, mut work: impl FnMut() -> T) -> Duration {
 #[cfg(test)]
 mod tests {
     use super::*;
-    use crate::contestants::{Library, Lines, Plain};
+    use crate::contestants::{Library, Lines, Plain, Putting, Writing};
 
     /// Does as the plain loader does, but for one byte.
     struct Spoilt;
@@ -186,6 +216,32 @@ mod tests {
                 texts
             })
         }
+
+        fn parsed(&self, text: &str) -> Lines {
+            let lines = Plain.parsed(text);
+            Box::new(move || {
+                let mut texts = lines();
+                texts[0][0] ^= 1;
+                texts
+            })
+        }
+
+        fn writing(&self, text: &str) -> Writing {
+            let mut line = Plain.writing(text);
+            Box::new(move || {
+                let mut written = line();
+                written[0] ^= 1;
+                written
+            })
+        }
+
+        fn putting<'a>(&self, guest: &'a mut [u8], text: &str) -> Putting<'a> {
+            let text = text.to_string();
+            Box::new(move || {
+                Plain.putting(guest, &text)();
+                guest[GUEST - 1] ^= 1;
+            })
+        }
     }
 
     #[test]
@@ -194,6 +250,9 @@ mod tests {
             Given::Elf(images::elf(2, 100)),
             Given::BzImage(images::bzimage(8 * 512 + 100)),
             Given::Insertions(images::pairs(1, 2)),
+            Given::Parsing(images::full_text()),
+            Given::Writing(images::full_text()),
+            Given::Putting(images::full_text()),
         ];
         for given in given {
             let work = Work {

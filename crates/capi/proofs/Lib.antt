@@ -1,5 +1,7 @@
 pub mod LoadsLaws
 pub mod LinesLaws
-pub mod ReadBack
+pub mod HoldsLaws
 pub mod LinesStay
+pub mod BehindTexts
+pub mod ZerosStay
 pub mod Outcomes

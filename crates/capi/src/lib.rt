@@ -3,13 +3,17 @@
 ghost use Rattle.cmdline.specs.Insertion.{insert, insertMultiple, insertStr, insertInitArgs};
 ghost use Rattle.cmdline.specs.Device.{addDevice};
 ghost use Rattle.cmdline.specs.Making.{new, tryFrom};
-ghost use Rattle.capi.specs.Lines.{textIn, idBy, LineMakes, LineCalls, LineWrites, LinesCompare, LineLoadsFrom};
+ghost use Rattle.capi.specs.Lines.{textIn, the-boot, the-init, idBy, LineMakes, LineCalls, LineWrites, LinesCompare, LineLoadsFrom};
 ghost use Rattle.capi.specs.Loads.{offsetOf, highmemOf, ElfLoads, ElfNotes, BzImageLoads};
 use answers::Gate;
 use answers::Refusal;
-use cmdline::Cmdline;
+use cmdline::in_place;
+use cmdline::sizes;
+use cmdline::writing;
 use guest::GuestAddress;
 use guest::ImagePlace;
+use slugs::splitting;
+use slugs::trimming;
 
 mod bzimage_told;
 mod elf_told;
@@ -92,8 +96,9 @@ pub extern "C" fn rekusoyen_line_new(line: &mut [u8], capacity: u64) -> u32
     ensures { λ r. ⌜ LineMakes (now (line .entry)) (new capacity) r (now (line .exit)) ⌝ }
 {
     let gate = answers::require(Gate::Open, line.len() == lines::SIZE, Refusal::NoRoom);
-    let reply = Cmdline::new(capacity as usize);
-    lines::settle(line, gate, reply)
+    let allowed = sizes::is_capacity(capacity as usize);
+    let gate = answers::require(gate, allowed, Refusal::InvalidCapacity);
+    lines::make(line, gate, capacity, b"", b"")
 }
 
 // A line from its text, over whatever the bytes held.
@@ -101,21 +106,35 @@ pub extern "C" fn rekusoyen_line_new(line: &mut [u8], capacity: u64) -> u32
 pub extern "C" fn rekusoyen_line_try_from(line: &mut [u8], text: &[u8], capacity: u64) -> u32
     ensures { λ r. ⌜ LineMakes (now (line .entry)) (tryFrom (now (text .entry)) capacity) r (now (line .exit)) ⌝ }
 {
+    let at = splitting::split_at(text);
+    let before = trimming::trimmed(&text[..at]);
+    let after = trimming::trimmed(splitting::after(text, at));
     let gate = answers::require(Gate::Open, line.len() == lines::SIZE, Refusal::NoRoom);
-    let reply = Cmdline::try_from(text, capacity as usize);
-    lines::settle(line, gate, reply)
+    let gate = sizes::ask(gate, before.len(), after.len(), capacity as usize);
+    lines::make(line, gate, capacity, before, after)
 }
 
 // A key, an equals sign and a value, after the boot text.
 #[no_mangle]
 pub extern "C" fn rekusoyen_line_insert(line: &mut [u8], key: &[u8], value: &[u8]) -> u32
-    ensures { λ r. ⌜ LineCalls (now (line .entry)) (insert (textIn (now (line .entry))) (now (key .entry)) (now (value .entry))) r (now (line .exit)) ⌝ }
+    ensures { λ r. ⌜ LineCalls the-boot (now (line .entry)) (insert (textIn (now (line .entry))) (now (key .entry)) (now (value .entry))) r (now (line .exit)) ⌝ }
 {
-    let held = lines::look(Gate::Open, line);
-    let gate = held.gate;
-    let before = held.line;
-    let reply = before.insert(key, value);
-    lines::settle(line, gate, reply)
+    let header = lines::read_header(Gate::Open, line);
+    let gate = header.gate;
+    match gate {
+        Gate::Shut(refusal) => answers::number(refusal),
+        Gate::Open => {
+            let appended = in_place::insert(
+                &mut line[lines::BOOT..lines::INIT],
+                header.boots,
+                header.inits,
+                header.capacity,
+                key,
+                value,
+            );
+            lines::tell(line, lines::BOOTS, appended)
+        }
+    }
 }
 
 // A key, an equals sign and values joined by commas, after the boot text. The values stand one after the other, and `ends` has the end of each.
@@ -126,37 +145,69 @@ pub extern "C" fn rekusoyen_line_insert_multiple(
     values: &[u8],
     ends: &[usize],
 ) -> u32
-    ensures { λ r. ⌜ LineCalls (now (line .entry)) (insertMultiple (textIn (now (line .entry))) (now (key .entry)) (now (values .entry)) (now (ends .entry))) r (now (line .exit)) ⌝ }
+    ensures { λ r. ⌜ LineCalls the-boot (now (line .entry)) (insertMultiple (textIn (now (line .entry))) (now (key .entry)) (now (values .entry)) (now (ends .entry))) r (now (line .exit)) ⌝ }
 {
-    let held = lines::look(Gate::Open, line);
-    let gate = held.gate;
-    let before = held.line;
-    let reply = before.insert_multiple(key, values, ends);
-    lines::settle(line, gate, reply)
+    let header = lines::read_header(Gate::Open, line);
+    let gate = header.gate;
+    match gate {
+        Gate::Shut(refusal) => answers::number(refusal),
+        Gate::Open => {
+            let appended = in_place::insert_multiple(
+                &mut line[lines::BOOT..lines::INIT],
+                header.boots,
+                header.inits,
+                header.capacity,
+                key,
+                values,
+                ends,
+            );
+            lines::tell(line, lines::BOOTS, appended)
+        }
+    }
 }
 
 // A slug, after the boot text.
 #[no_mangle]
 pub extern "C" fn rekusoyen_line_insert_str(line: &mut [u8], slug: &[u8]) -> u32
-    ensures { λ r. ⌜ LineCalls (now (line .entry)) (insertStr (textIn (now (line .entry))) (now (slug .entry))) r (now (line .exit)) ⌝ }
+    ensures { λ r. ⌜ LineCalls the-boot (now (line .entry)) (insertStr (textIn (now (line .entry))) (now (slug .entry))) r (now (line .exit)) ⌝ }
 {
-    let held = lines::look(Gate::Open, line);
-    let gate = held.gate;
-    let before = held.line;
-    let reply = before.insert_str(slug);
-    lines::settle(line, gate, reply)
+    let header = lines::read_header(Gate::Open, line);
+    let gate = header.gate;
+    match gate {
+        Gate::Shut(refusal) => answers::number(refusal),
+        Gate::Open => {
+            let appended = in_place::insert_str(
+                &mut line[lines::BOOT..lines::INIT],
+                header.boots,
+                header.inits,
+                header.capacity,
+                slug,
+            );
+            lines::tell(line, lines::BOOTS, appended)
+        }
+    }
 }
 
 // A slug, after the init text.
 #[no_mangle]
 pub extern "C" fn rekusoyen_line_insert_init_args(line: &mut [u8], slug: &[u8]) -> u32
-    ensures { λ r. ⌜ LineCalls (now (line .entry)) (insertInitArgs (textIn (now (line .entry))) (now (slug .entry))) r (now (line .exit)) ⌝ }
+    ensures { λ r. ⌜ LineCalls the-init (now (line .entry)) (insertInitArgs (textIn (now (line .entry))) (now (slug .entry))) r (now (line .exit)) ⌝ }
 {
-    let held = lines::look(Gate::Open, line);
-    let gate = held.gate;
-    let before = held.line;
-    let reply = before.insert_init_args(slug);
-    lines::settle(line, gate, reply)
+    let header = lines::read_header(Gate::Open, line);
+    let gate = header.gate;
+    match gate {
+        Gate::Shut(refusal) => answers::number(refusal),
+        Gate::Open => {
+            let appended = in_place::insert_init_args(
+                &mut line[lines::INIT..lines::SIZE],
+                header.boots,
+                header.inits,
+                header.capacity,
+                slug,
+            );
+            lines::tell(line, lines::INITS, appended)
+        }
+    }
 }
 
 // The text of a virtio device, after the boot text. A has_id of 0: the device has no ID.
@@ -169,14 +220,27 @@ pub extern "C" fn rekusoyen_line_add_virtio_mmio_device(
     has_id: u32,
     id: u32,
 ) -> u32
-    ensures { λ r. ⌜ LineCalls (now (line .entry)) (addDevice (textIn (now (line .entry))) size address irq (idBy «has_id» id)) r (now (line .exit)) ⌝ }
+    ensures { λ r. ⌜ LineCalls the-boot (now (line .entry)) (addDevice (textIn (now (line .entry))) size address irq (idBy «has_id» id)) r (now (line .exit)) ⌝ }
 {
-    let held = lines::look(Gate::Open, line);
-    let gate = held.gate;
-    let before = held.line;
     let device_id = lines::id_by(has_id, id);
-    let reply = before.add_virtio_mmio_device(size, GuestAddress(address), irq, device_id);
-    lines::settle(line, gate, reply)
+    let header = lines::read_header(Gate::Open, line);
+    let gate = header.gate;
+    match gate {
+        Gate::Shut(refusal) => answers::number(refusal),
+        Gate::Open => {
+            let appended = in_place::add_virtio_mmio_device(
+                &mut line[lines::BOOT..lines::INIT],
+                header.boots,
+                header.inits,
+                header.capacity,
+                size,
+                GuestAddress(address),
+                irq,
+                device_id,
+            );
+            lines::tell(line, lines::BOOTS, appended)
+        }
+    }
 }
 
 // The text of the line and its closing zero, written to the start of `out`; how many bytes, the zero counted, into the one place of `count`.
@@ -185,13 +249,14 @@ pub extern "C" fn rekusoyen_line_as_cstring(line: &[u8], out: &mut [u8], count: 
     ensures { λ r. ⌜ LineWrites (now (line .entry)) (now (out .entry)) (now (count .entry)) r (now (out .exit)) (now (count .exit)) ⌝ }
 {
     let gate = answers::require(Gate::Open, count.len() == 1, Refusal::NoRoom);
-    let held = lines::look(gate, line);
-    let gate = held.gate;
-    let text = held.line;
+    let header = lines::read_header(gate, line);
+    let gate = header.gate;
     match gate {
         Gate::Shut(refusal) => answers::number(refusal),
         Gate::Open => {
-            let written = text.as_cstring(out);
+            let boot = lines::text_at(line, lines::BOOT, header.boots);
+            let init = lines::text_at(line, lines::INIT, header.inits);
+            let written = writing::as_cstring(out, boot, init);
             lines::tell_written(count, written)
         }
     }
@@ -203,16 +268,18 @@ pub extern "C" fn rekusoyen_line_equal(a: &[u8], b: &[u8], out: &mut [u64]) -> u
     ensures { λ r. ⌜ LinesCompare (now (a .entry)) (now (b .entry)) (now (out .entry)) r (now (out .exit)) ⌝ }
 {
     let gate = answers::require(Gate::Open, out.len() == 1, Refusal::NoRoom);
-    let held = lines::look(gate, a);
-    let gate = held.gate;
-    let first = held.line;
-    let held = lines::look(gate, b);
-    let gate = held.gate;
-    let second = held.line;
+    let first = lines::read_header(gate, a);
+    let gate = first.gate;
+    let second = lines::read_header(gate, b);
+    let gate = second.gate;
     match gate {
         Gate::Shut(refusal) => answers::number(refusal),
         Gate::Open => {
-            let same = first.eq(second);
+            let boot = lines::text_at(a, lines::BOOT, first.boots);
+            let init = lines::text_at(a, lines::INIT, first.inits);
+            let boot2 = lines::text_at(b, lines::BOOT, second.boots);
+            let init2 = lines::text_at(b, lines::INIT, second.inits);
+            let same = writing::same_line(boot, init, boot2, init2);
             out[0] = lines::flag(same);
             0
         }
@@ -224,13 +291,14 @@ pub extern "C" fn rekusoyen_line_equal(a: &[u8], b: &[u8], out: &mut [u64]) -> u
 pub extern "C" fn rekusoyen_line_load(guest: &mut [u8], address: u64, line: &[u8]) -> u32
     ensures { λ r. ⌜ LineLoadsFrom (now (line .entry)) address (now (guest .entry)) r (now (guest .exit)) ⌝ }
 {
-    let held = lines::look(Gate::Open, line);
-    let gate = held.gate;
-    let text = held.line;
+    let header = lines::read_header(Gate::Open, line);
+    let gate = header.gate;
     match gate {
         Gate::Shut(refusal) => answers::number(refusal),
         Gate::Open => {
-            let answer = loader::load_cmdline(guest, GuestAddress(address), text);
+            let boot = lines::text_at(line, lines::BOOT, header.boots);
+            let init = lines::text_at(line, lines::INIT, header.inits);
+            let answer = loader::load_line(guest, GuestAddress(address), boot, init);
             lines::load_number(answer)
         }
     }

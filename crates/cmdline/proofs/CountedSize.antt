@@ -1,5 +1,6 @@
--- The counted size never exceeds the capacity, and the capacity never the limit: every accepted call leaves a line that fits, so does every
--- making that is accepted, and so does any run of calls. `never-exceeds` is the theorem; `str-fits` and its like say it of each call.
+-- The counted size never exceeds the capacity: every accepted call leaves a line that fits, so does every making that is accepted, and so
+-- does any run of calls. `never-exceeds` is the theorem; `str-fits` and its like say it of each call. That a capacity never exceeds the limit
+-- stands beside each making: `new-most` and `from-most` (file MakingLaws).
 use Prim.Native.Nat.{ℕ, _+_, _≤_}
 use mathlib.Core.Path.{_≡_, refl}
 use mathlib.Core.Bool.{not}
@@ -14,6 +15,7 @@ use Rattle.answers.specs.declared.Refusal.the-variants as refusal
 use Rattle.answers.specs.declared.Gate.{Gate}
 use Rattle.answers.specs.declared.Gate.the-variants.{Open, Shut}
 use Rattle.answers.proofs.TestsLaws.{open-all, hold-right}
+use Rattle.cmdline.specs.Fitting.{Fits}
 use Rattle.cmdline.specs.declared.Answer.the-variants.{Accepted}
 use Rattle.cmdline.specs.declared.DeviceId.{DeviceId}
 use Rattle.slugs.specs.Trimming.{trim}
@@ -28,10 +30,6 @@ use Rattle.cmdline.specs.Making.{new, parted, tryFrom}
 use Rattle.cmdline.specs.Calls
 use Rattle.cmdline.proofs.TextLaws.{joined-long, size-after-boot, size-after-init}
 use Rattle.cmdline.proofs.MakingLaws.{allowed-least}
-
--- a line fits: its counted size is within its capacity
-abbrev pub Fits : Text → Type 0
-Fits t = counted t ≤ t .capacity
 
 -- ---- each insertion, where every test holds
 
@@ -91,6 +89,7 @@ call-fits (Calls.inserts-init-args slug) t f = settled-fits t (insertInitArgs t 
 call-fits (Calls.adds-device size base irq id) t f = settled-fits t (addDevice t size base irq id) (device-fits t size base irq id) f
 call-fits (Calls.writes room) t f = f
 call-fits (Calls.compares other) t f = f
+call-fits (Calls.tells g) t f = f
 
 pub calls-fit : (ks : List Calls.Call) (t : Text) → Fits t → Fits (Calls.calls ks t .text)
 unfolding Calls.calls

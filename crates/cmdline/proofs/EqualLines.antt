@@ -1,5 +1,5 @@
 -- Two lines are equal exactly when their written answers, given room, are: `equal-answers` and `answers-equal`. So all lines of init text
--- alone are equal, and all lines with a zero byte.
+-- alone are equal to each other, and so are all lines with boot text and a zero byte: each kind has one refusal.
 use Prim.Native.Nat.{ℕ, _+_, _≤_}
 use mathlib.Core.Path.{_≡_, refl, sym, ap, _∙_}
 use mathlib.Core.Bool.{Bool, true, false, not}
@@ -17,7 +17,7 @@ use Rattle.answers.proofs.TestsLaws.{asked-append}
 use Rattle.cmdline.specs.declared.Written.the-variants as written
 use Rattle.slugs.specs.Bytes.{has}
 use Rattle.cmdline.specs.Text.{Text}
-use Rattle.cmdline.specs.Writing.{whole, headed, textTests, textGate, writeGate, writtenOf, writtenBytes, sameBytes, sameAnswer, sameLine}
+use Rattle.cmdline.specs.Writing.{whole, headed, textTests, textGate, writeGate, writtenOf, writtenBytes, sameBytes, sameAnswer, sameLine, SameWritten}
 use Rattle.slugs.proofs.BytesLaws.{both-left, both-right}
 
 -- ---- texts
@@ -69,27 +69,22 @@ given-room t room h =
 
 -- ---- by cases on the two gates, of which each is open or shut by one of two refusals
 
-data Told : Gate → Type 0 where
-  good : Told Open
-  alone : Told (Shut refusal.NoBootArgsInserted)
-  zero-byte : Told (Shut refusal.NullTerminator)
+data TextSaid : Gate → Type 0 where
+  good : TextSaid Open
+  alone : TextSaid (Shut refusal.NoBootArgsInserted)
+  zero-byte : TextSaid (Shut refusal.NullTerminator)
 
-told : (t : Text) → Told (textGate t)
+told : (t : Text) → TextSaid (textGate t)
 unfolding textTests asked pick
 told t = split (headed (length (t .boot)) (length (t .init))) (not (has 0 (whole t)))
   where
-    split : (a b : Bool) → Told (asked (asked Open a refusal.NoBootArgsInserted) b refusal.NullTerminator)
+    split : (a b : Bool) → TextSaid (asked (asked Open a refusal.NoBootArgsInserted) b refusal.NullTerminator)
     split true true = good
     split true false = zero-byte
     split false b = alone
 
--- the written answer and the bytes, by the gate
-pub record Answers (a b : Text) (g h : Gate) : Type 0 where
-  pub answer : writtenOf g a ≡ writtenOf h b
-  pub bytes : writtenBytes g a ≡ writtenBytes h b
-
 module _ (a b : Text) where
-  forth : (g h : Gate) → Told g → Told h → sameAnswer g h (sameBytes (whole a) (whole b)) ≡ true → Answers a b g h
+  forth : (g h : Gate) → TextSaid g → TextSaid h → sameAnswer g h (sameBytes (whole a) (whole b)) ≡ true → SameWritten a b g h
   forth _ _ good good e =
       let w = same-list (whole a) (whole b) e in
       record { answer = ap (λ (s : List ℕ). written.Bytes (length s + 1)) w; bytes = ap (λ (s : List ℕ). s ++ (0 ∷ [])) w }
@@ -102,7 +97,7 @@ module _ (a b : Text) where
   forth _ _ zero-byte alone e = absurd (eqb-false 0 0 (sym e) refl)
   forth _ _ zero-byte zero-byte e = record { answer = refl; bytes = refl }
 
-  back : (g h : Gate) → Told g → Told h → Answers a b g h → sameAnswer g h (sameBytes (whole a) (whole b)) ≡ true
+  back : (g h : Gate) → TextSaid g → TextSaid h → SameWritten a b g h → sameAnswer g h (sameBytes (whole a) (whole b)) ≡ true
   back _ _ good good w = rw (snoc-same (whole a) (whole b) 0 (w .bytes)) (list-same (whole b))
   back _ _ good alone w = let e = w .answer in let z : _≡_ {A = ℕ} 0 1 = cc in absurd (omega arith)
   back _ _ good zero-byte w = let e = w .answer in let z : _≡_ {A = ℕ} 0 1 = cc in absurd (omega arith)
@@ -114,8 +109,8 @@ module _ (a b : Text) where
   back _ _ zero-byte zero-byte w = refl
 
   module _ (room : ℕ) (ra : length (whole a) + 1 ≤ room) (rb : length (whole b) + 1 ≤ room) where
-    pub equal-answers : sameLine a b ≡ true → Answers a b (writeGate a room) (writeGate b room)
+    pub equal-answers : sameLine a b ≡ true → SameWritten a b (writeGate a room) (writeGate b room)
     equal-answers e = rw (given-room a room ra, given-room b room rb) (forth (textGate a) (textGate b) (told a) (told b) e)
 
-    pub answers-equal : Answers a b (writeGate a room) (writeGate b room) → sameLine a b ≡ true
+    pub answers-equal : SameWritten a b (writeGate a room) (writeGate b room) → sameLine a b ≡ true
     answers-equal w = back (textGate a) (textGate b) (told a) (told b) (rw (given-room a room ra, given-room b room rb) at w)

@@ -11,6 +11,7 @@ use Rattle.answers.specs.Tests.{AllHold}
 use Rattle.answers.specs.declared.Gate.{Gate}
 use Rattle.answers.specs.declared.Gate.the-variants.{Open, Shut}
 use Rattle.answers.proofs.TestsLaws.{open-all}
+use Rattle.cmdline.specs.Fitting.{Fits, Short}
 use Rattle.cmdline.specs.declared.Cmdline.{Cmdline}
 use Rattle.cmdline.specs.declared.Answer.the-variants.{Accepted}
 use Rattle.cmdline.specs.Limit.{limit}
@@ -18,18 +19,13 @@ use Rattle.cmdline.specs.Text.{Text, empty}
 use Rattle.cmdline.specs.Insertion.{Plan, planGate, answerOf, settled, insert}
 use Rattle.cmdline.specs.Held.{textOf, holding, blankLine, replyOf, madeOf}
 use Rattle.cmdline.specs.ZeroPast.{Buffers}
-use Rattle.cmdline.specs.Growing.{Extends}
+use Rattle.cmdline.specs.Growing.{Extends, Inserted}
 use Rattle.cmdline.proofs.TextLaws.{size-boot, size-init}
-use Rattle.cmdline.proofs.CountedSize.{Fits, insert-fits, settled-fits, made-fits}
+use Rattle.cmdline.proofs.CountedSize.{insert-fits, settled-fits, made-fits}
 use Rattle.cmdline.proofs.NothingLost.{insert-extends}
-use Rattle.cmdline.proofs.InsertedPair.{Inserted, inserted-pair}
+use Rattle.cmdline.proofs.InsertedPair.{inserted-pair}
 
 -- texts that fit a capacity within the limit fit the buffers
-pub record Short (t : Text) : Type 0 where
-  pub boot : length (t .boot) ≤ limit
-  pub init : length (t .init) ≤ limit
-  pub capacity : t .capacity ≤ limit
-
 pub fits-short : (t : Text) → Fits t → t .capacity ≤ limit → Short t
 fits-short t f c =
     let b = size-boot (length (t .boot)) (length (t .init)) in

@@ -8,19 +8,12 @@ use Rattle.answers.specs.declared.Gate.the-variants.{Open}
 use Rattle.answers.proofs.TestsLaws.{open-all, hold-left}
 use Rattle.slugs.specs.Keys.{keyTests}
 use Rattle.slugs.specs.Values.{valueTests, pair}
+use Rattle.cmdline.specs.Growing.{Inserted}
 use Rattle.cmdline.specs.Text.{Text, counted, bootGap}
 use Rattle.cmdline.specs.Insertion.{planGate, insert, insertStr}
 use Rattle.cmdline.proofs.TextLaws.{joined-long, size-after-boot}
 use Rattle.slugs.proofs.ValuesLaws.{pair-told}
 use Rattle.slugs.specs.Joining.{joined}
-
-pub record Inserted (t u : Text) (key value : List ℕ) : Type 0 where
-  -- the pair stands after what stood there, with a space between if there was text
-  pub boot : u .boot ≡ joined (t .boot) (pair key value)
-  pub init : u .init ≡ t .init
-  pub capacity : u .capacity ≡ t .capacity
-  -- and is counted as it stands
-  pub size : counted u ≡ counted t + bootGap (length (t .boot)) + length (pair key value)
 
 pub inserted-pair : (t : Text) (key value : List ℕ) → planGate (insert t key value) ≡ Open → Inserted t (insert t key value .text) key value
 unfolding insert insertStr

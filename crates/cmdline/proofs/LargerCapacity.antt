@@ -13,13 +13,13 @@ use Rattle.answers.specs.Keeping.{ShutBy, shut-by, Widens, end, stays, grows}
 use Rattle.answers.specs.declared.Refusal.the-variants as refusal
 use Rattle.answers.specs.declared.Gate.{Gate}
 use Rattle.answers.specs.declared.Gate.the-variants.{Open, Shut}
-use Rattle.answers.proofs.KeepingLaws.{row-keeps, kept, leb-grows}
+use Rattle.answers.proofs.KeepingLaws.{row-keeps, kept, leb-grows, widens-append, widens-same}
 use Rattle.cmdline.specs.Limit.{allowed}
 use Rattle.slugs.specs.Trimming.{trim}
 use Rattle.slugs.specs.Bytes.{equals}
 use Rattle.slugs.specs.Keys.{keyTests}
 use Rattle.slugs.specs.Values.{valueTests, pair}
-use Rattle.cmdline.specs.Text.{Text, counted, bootGap, initGap}
+use Rattle.cmdline.specs.Text.{Text, counted, bootGap, initGap, under}
 use Rattle.cmdline.specs.Insertion.{Plan, planGate, answerOf, settled, insert, insertStr, insertInitArgs, insertMultiple}
 use Rattle.slugs.specs.Lists.{listed, listPre}
 use Rattle.cmdline.specs.Device.{deviceText, addDevice}
@@ -27,18 +27,13 @@ use Rattle.cmdline.specs.Making.{new, parted, tryFrom}
 use Rattle.cmdline.specs.Writing.{writeGate, writtenOf, writtenBytes}
 use Rattle.cmdline.specs.Calls
 
--- the same texts under another capacity
-abbrev under : ℕ → Text → Text
-under c t = record { boot = t .boot; init = t .init; capacity = c }
-
 -- a step under another capacity: it says the same, and its texts are the same
 abbrev same-step : ℕ → Calls.Step → Calls.Step
 same-step c s = record { said = s .said; text = under c (s .text) }
 
 -- tests that capacity has no part in, before a row that widens
 widens-after : (pre : List Test) {ts ts' : List Test} → Widens Calls.ForRoom ts ts' → Widens Calls.ForRoom (pre ++ ts) (pre ++ ts')
-widens-after [] w = w
-widens-after (t ∷ pre) w = stays refl (λ h. widens-after pre w)
+widens-after pre w = widens-append Calls.ForRoom (widens-same Calls.ForRoom pre) (λ h. w)
 
 -- a gate that is not shut for room is the same under a row that widens
 same-gate : (ts ts' : List Test) → Widens Calls.ForRoom ts ts' → (Calls.RefusedForRoom (Calls.answered (answerOf (askedAll Open ts))) → ⊥)
@@ -108,6 +103,7 @@ module _ (c : ℕ) (t : Text) (more : t .capacity ≤ c) where
   same-call (Calls.writes room) none =
       (ap (λ (s : Calls.Said). record { said = s; text = under c t }) (same-written c t (writeGate t room)), refl)
   same-call (Calls.compares other) none = (refl, refl)
+  same-call (Calls.tells f) none = (refl, refl)
 
 abbrev same-run : ℕ → Calls.Run → Calls.Run
 same-run c r = record { said = r .said; text = under c (r .text) }

@@ -15,6 +15,7 @@ pub mod HeldTexts
 pub mod ZeroLaws
 pub mod ZerosStay
 pub mod RefusedUnchanged
+pub mod Refusals
 pub mod DigitsReadBack
 pub mod EqualLines
 pub mod Outcomes

@@ -6,7 +6,7 @@ use mathlib.Core.List.{List, [], _∷_}
 use native.Mathlib.Omega.{arith}
 use lib.Dec.{leb}
 use lib.ListN.{length, take, drop, replicate, length-replicate}
-use borrow.Author.Tests.{leb-true}
+use borrow.Author.Tests.{leb-true, le-leb}
 use Rattle.answers.specs.Tests.{asked, askedAll, AllHold}
 use Rattle.answers.specs.declared.Refusal.the-variants as refusal
 use Rattle.answers.specs.declared.Gate.{Gate}
@@ -31,6 +31,10 @@ allowed-most c e = leb-true c limit (both-right (leb 1 c) (leb c limit) e)
 pub allowed-least : (c : ℕ) → allowed c ≡ true → 1 ≤ c
 unfolding allowed
 allowed-least c e = leb-true 1 c (both-left (leb 1 c) (leb c limit) e)
+
+pub most-allowed : (c : ℕ) → 1 ≤ c → c ≤ limit → allowed c ≡ true
+unfolding allowed
+most-allowed c low high = rw (le-leb 1 c low, le-leb c limit high)
 
 -- a line that is made has a capacity within the limit
 pub new-most : (c : ℕ) → AllHold (new c .tests) → new c .text .capacity ≤ limit

@@ -1,5 +1,5 @@
 -- Nothing inserted earlier is lost, no word drops off the line: over any calls, the boot text that stood there begins the later one, and so
--- does the init text. `nothing-lost` is the theorem; `plan-extends` says it of each insertion.
+-- does the init text. `nothing-lost` is the theorem; `str-extends` and its like say it of each insertion.
 use Prim.Native.Nat.{ℕ, _≤_}
 use mathlib.Core.Path.{refl, sym, ap, _∙_}
 use mathlib.Core.List.{List, [], _∷_, _++_, append-assoc, append-nil}
@@ -77,6 +77,7 @@ call-extends (Calls.inserts-init-args slug) t = settled-extends t (insertInitArg
 call-extends (Calls.adds-device size base irq id) t = settled-extends t (addDevice t size base irq id) (device-extends t size base irq id)
 call-extends (Calls.writes room) t = extends-same t
 call-extends (Calls.compares other) t = extends-same t
+call-extends (Calls.tells f) t = extends-same t
 
 pub nothing-lost : (ks : List Calls.Call) (t : Text) → Extends t (Calls.calls ks t .text)
 unfolding Calls.calls

@@ -10,6 +10,7 @@ use Rattle.answers.specs.Tests.{AllHold}
 use Rattle.answers.specs.declared.Gate.{Gate}
 use Rattle.answers.specs.declared.Gate.the-variants.{Open, Shut}
 use Rattle.answers.proofs.TestsLaws.{open-all}
+use Rattle.cmdline.specs.Fitting.{Fits, Short}
 use Rattle.cmdline.specs.declared.Cmdline.{Cmdline}
 use Rattle.cmdline.specs.Limit.{limit}
 use Rattle.cmdline.specs.Text.{Text}
@@ -19,8 +20,7 @@ use Rattle.cmdline.specs.ZeroPast.{Buffers, ZeroPast}
 use Rattle.cmdline.specs.Growing.{Extends}
 use Rattle.cmdline.proofs.HeldLaws.{boot-long, init-long}
 use Rattle.cmdline.proofs.NothingLost.{begins-long}
-use Rattle.cmdline.proofs.CountedSize.{Fits}
-use Rattle.cmdline.proofs.HeldTexts.{Short, fits-short, buffers-held, blank-buffers}
+use Rattle.cmdline.proofs.HeldTexts.{fits-short, buffers-held, blank-buffers}
 
 -- what is stored leaves the bytes past it
 pub past-stored : (s d : List ℕ) (at i : ℕ) → at + length s ≤ i → getD (sets d at s) i 0 ≡ getD d i 0
@@ -28,7 +28,7 @@ past-stored [] d at i h = refl
 past-stored (x ∷ xs) d at i h =
     past-stored xs (set d at x) (suc at) i (omega arith) ∙ getD-set-other d at i x 0 (λ e. let z : i ≡ at = e in omega arith)
 
-zeros : (n i : ℕ) → getD {A = ℕ} (replicate n 0) i 0 ≡ 0
+pub zeros : (n i : ℕ) → getD {A = ℕ} (replicate n 0) i 0 ≡ 0
 zeros n i = split (decLe (suc i) n)
   where
     split : Dec (suc i ≤ n) → getD {A = ℕ} (replicate n 0) i 0 ≡ 0

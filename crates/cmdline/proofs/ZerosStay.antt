@@ -2,6 +2,7 @@
 -- call on a line hands back one with zeros past its texts if it was given one. Stated of each function's own contract. (`as_cstring` and
 -- `eq` hand back no line.)
 use mathlib.Core.Path.{_≡_, subst⁻¹}
+use Rattle.cmdline.specs.Fitting.{Fits}
 use Rattle.cmdline.specs.declared.Cmdline.{Cmdline}
 use Rattle.cmdline.specs.declared.Reply.{Reply}
 use Rattle.cmdline.specs.Insertion.{Plan, insert, insertStr, insertInitArgs, insertMultiple}
@@ -9,10 +10,10 @@ use Rattle.cmdline.specs.Device.{addDevice}
 use Rattle.cmdline.specs.Making.{new, tryFrom}
 use Rattle.answers.specs.Tests.{AllHold}
 use Rattle.cmdline.specs.Held.{textOf, replyOf}
-use Rattle.cmdline.specs.ZeroPast.{Buffers, ZeroPast}
+use Rattle.cmdline.specs.ZeroPast.{Clean}
 use Rattle.cmdline.specs.Growing.{Extends}
 use Rattle.cmdline.specs.Keeping.{Gives}
-use Rattle.cmdline.proofs.CountedSize.{Fits, str-fits, init-fits, insert-fits, multiple-fits, device-fits, new-fits, from-fits}
+use Rattle.cmdline.proofs.CountedSize.{str-fits, init-fits, insert-fits, multiple-fits, device-fits, new-fits, from-fits}
 use Rattle.cmdline.proofs.NothingLost.{str-extends, init-extends, insert-extends, multiple-extends, device-extends}
 use Rattle.cmdline.proofs.MakingLaws.{new-most, from-most}
 use Rattle.cmdline.proofs.ZeroLaws.{reply-zero, reply-buffers, made-zero, made-buffers}
@@ -30,11 +31,6 @@ use Rattle.cmdline.proofs.Cmdline.insert_init_args.Kinds as insert-init
 use Rattle.cmdline.proofs.Cmdline.insert_init_args.Reads as insert-init-args-reads
 use Rattle.cmdline.proofs.Cmdline.add_virtio_mmio_device.Kinds as add-virtio-mmio-device-kinds
 use Rattle.cmdline.proofs.Cmdline.add_virtio_mmio_device.Reads as add-virtio-mmio-device-reads
-
--- buffers of the limit's length, with zeros past the texts
-pub record Clean (l : Cmdline) : Type 0 where
-  pub buffers : Buffers l
-  pub zero : ZeroPast l
 
 -- a call by a plan
 clean-reply : (l : Cmdline) (p : Plan) {r : Reply} → r ≡ replyOf l p → (AllHold (p .tests) → Fits (p .text)) → Extends (textOf l) (p .text) → Clean l

@@ -21,7 +21,7 @@ pub data Making : Type 0 where
   makes-from : List ℕ → Making
 
 -- what is called on it: each function with what it is given beside the line; `writes` into room for so many bytes, `compares` with the
--- texts of another line
+-- texts of another line; `tells` is whatever else is worked out from the two texts alone, as loading a line into guest memory is
 pub data Call : Type 0 where
   inserts : List ℕ → List ℕ → Call
   inserts-multiple : List ℕ → List ℕ → List ℕ → Call
@@ -30,12 +30,14 @@ pub data Call : Type 0 where
   adds-device : ℕ → ℕ → ℕ → DeviceId → Call
   writes : ℕ → Call
   compares : Text → Call
+  tells : (List ℕ → List ℕ → List ℕ) → Call
 
--- what a call says: an answer; what was written; whether two lines are equal
+-- what a call says: an answer; what was written; whether two lines are equal; what was worked out from the texts
 pub data Said : Type 0 where
   answered : Answer → Said
   wrote : Written → List ℕ → Said
   compared : Bool → Said
+  told : List ℕ → Said
 
 -- a call says something, and leaves the line's texts
 pub record Step : Type 0 where
@@ -57,6 +59,7 @@ calling (inserts-init-args slug) t = planned (insertInitArgs t slug) t
 calling (adds-device size base irq id) t = planned (addDevice t size base irq id) t
 calling (writes room) t = record { said = wrote (writtenOf (writeGate t room) t) (writtenBytes (writeGate t room) t); text = t }
 calling (compares other) t = record { said = compared (sameLine t other); text = t }
+calling (tells f) t = record { said = told (f (t .boot) (t .init)); text = t }
 
 -- what all calls say, in order, and the texts at the end
 pub record Run : Type 0 where

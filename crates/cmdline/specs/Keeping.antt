@@ -12,3 +12,9 @@ abbrev pub Gives : (n : ℕ) (ps : List (PK n)) (r : RK n) → Out n ps r → ((
 Gives n ps r Post Before After =
     (κs : Lfts n) (a : Dens κs ps) (z : resT r κs .Denot) (ws : Lasts (endedOf n ps r) κs a)
     → Post κs a z (atExit (endedOf n ps r) κs a ws) → Before κs a → After κs z
+
+-- of the same claim: what holds of the arguments and of every result that it permits
+abbrev pub Says : (n : ℕ) (ps : List (PK n)) (r : RK n) → Out n ps r → ((κs : Lfts n) → Dens κs ps → resT r κs .Denot → Type 0) → Type 0
+Says n ps r Post Holds =
+    (κs : Lfts n) (a : Dens κs ps) (z : resT r κs .Denot) (ws : Lasts (endedOf n ps r) κs a)
+    → Post κs a z (atExit (endedOf n ps r) κs a ws) → Holds κs a z

@@ -1,5 +1,6 @@
 pub mod Limit
 pub mod Text
+pub mod Fitting
 pub mod Insertion
 pub mod Digits
 pub mod Device
@@ -10,4 +11,5 @@ pub mod InPlace
 pub mod ZeroPast
 pub mod Growing
 pub mod Keeping
+pub mod Answering
 pub mod Calls

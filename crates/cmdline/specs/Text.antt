@@ -37,3 +37,7 @@ initRoom t n = leb (counted t + initGap (length (t .init)) + n) (t .capacity)
 -- an empty line
 abbrev pub empty : ℕ → Text
 empty c = record { boot = []; init = []; capacity = c }
+
+-- the same texts under another capacity
+abbrev pub under : ℕ → Text → Text
+under c t = record { boot = t .boot; init = t .init; capacity = c }

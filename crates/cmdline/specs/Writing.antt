@@ -55,6 +55,11 @@ abbrev pub writtenNumber : Written → ℕ
 writtenNumber (written.Bytes n) = 0
 writtenNumber (written.Refused r) = numberOf r
 
+-- and its values: the count of bytes; a refusal has none
+unfoldable pub writtenCount : Written → List ℕ
+writtenCount (written.Bytes n) = n ∷ []
+writtenCount (written.Refused r) = []
+
 -- the bytes that are written: the text and its zero, or nothing
 abbrev pub writtenBytes : Gate → Text → List ℕ
 writtenBytes Open t = whole t ++ (0 ∷ [])
@@ -64,6 +69,11 @@ writtenBytes (Shut r) t = []
 pub record Writes (t : Text) (out : List ℕ) (r : Written) (left : List ℕ) : Type 0 where
   pub answer : r ≡ writtenOf (writeGate t (length out)) t
   pub bytes : left ≡ sets out 0 (writtenBytes (writeGate t (length out)) t)
+
+-- two written answers are the same, by how the tests of each end: what is said, and the bytes
+pub record SameWritten (a b : Text) (g h : Gate) : Type 0 where
+  pub answer : writtenOf g a ≡ writtenOf h b
+  pub bytes : writtenBytes g a ≡ writtenBytes h b
 
 -- two texts alone: writing and comparing do not look at a capacity
 abbrev pub bare : List ℕ → List ℕ → Text

@@ -14,3 +14,8 @@ pub record Buffers (l : Cmdline) : Type 0 where
 pub record ZeroPast (l : Cmdline) : Type 0 where
   pub boot : (i : ℕ) → min (l .boots) limit ≤ i → getD (l .boot) i 0 ≡ 0
   pub init : (i : ℕ) → min (l .inits) limit ≤ i → getD (l .init) i 0 ≡ 0
+
+-- buffers of the limit's length, with zeros past the texts
+pub record Clean (l : Cmdline) : Type 0 where
+  pub buffers : Buffers l
+  pub zero : ZeroPast l

@@ -9,11 +9,11 @@ use Rattle.answers.specs.declared.Refusal.{Refusal}
 use Rattle.answers.specs.declared.Refusal.the-variants.{InvalidCommandLine, CommandLineOverflow, NoBootArgsInserted, NullTerminator}
 use Rattle.answers.specs.declared.Gate.the-variants.{Shut}
 use Rattle.cmdline.specs.Text.{Text}
-use Rattle.cmdline.specs.Writing.{whole, textGate}
+use Rattle.cmdline.specs.Writing.{whole, textGate, bare}
 use Rattle.guest.specs.Lent.{memoryTests}
 use Rattle.guest.specs.Loading.{Plan, Loads, behindTests}
 use Rattle.guest.specs.Room.{room, memoryOf}
-use Rattle.guest.specs.Stream.{streamAt}
+use Rattle.guest.specs.Stream.{pour, streamAt}
 use Rattle.guest.specs.declared.Memory.{Memory}
 use Rattle.loader.specs.declared.Answer.{Answer}
 use Rattle.loader.specs.declared.Answer.the-variants.{Loaded, Refused}
@@ -58,3 +58,8 @@ pub data TextRefused (t : Text) : Type 0 where
 unfoldable pub lineNumber : Answer → ℕ
 lineNumber Loaded = 0
 lineNumber (Refused refusal) = numberOf refusal
+
+-- what loading the line of two texts says and leaves, as one list: the number of the answer, then guest memory. The capacity has no part in it
+unfoldable pub loadTold : ℕ → List ℕ → List ℕ → List ℕ → List ℕ
+loadTold address guest boot init =
+    lineNumber (planOf (bare boot init) (memoryOf guest) address .answer) ∷ pour (planOf (bare boot init) (memoryOf guest) address .stream) guest

@@ -8,6 +8,7 @@ use native.Mathlib.Omega.{arith}
 use lib.Dec.{leb, eqb}
 use lib.ListN.{length, drop, getD}
 use borrow.Author.Tests.{eq-eqb, ne-eqb, le-leb, lt-leb, leb-true, eqb-false}
+use Rattle.answers.specs.Pick.{pick}
 use Rattle.slugs.specs.Bytes.{blank, printable, every, has, space}
 use Rattle.slugs.proofs.ListLaws.{here, gone}
 
@@ -21,11 +22,11 @@ pub both-right : (a b : Bool) → a && b ≡ true → b ≡ true
 both-right true b e = e
 both-right false b e = absurd (eqb-false 0 0 (sym e) refl)
 
-either-left : (a b : Bool) → a || b ≡ false → a ≡ false
+pub either-left : (a b : Bool) → a || b ≡ false → a ≡ false
 either-left true b e = e
 either-left false b e = refl
 
-either-right : (a b : Bool) → a || b ≡ false → b ≡ false
+pub either-right : (a b : Bool) → a || b ≡ false → b ≡ false
 either-right true b e = absurd (eqb-false 0 0 e refl)
 either-right false b e = e
 
@@ -69,6 +70,21 @@ module _ (b : ℕ) (s : List ℕ) (i : ℕ) where
   pub has-end : length s ≤ i → has b (drop i s) ≡ false
   unfolding has
   has-end h = rw (gone s i h)
+
+-- a test of the bytes that is kept as a flag: one byte more, where it is the wanted one the answer stands, else the rest decides as before
+pub flag-on : (hit found : Bool) {rest next : Bool} → (hit ≡ true → rest ≡ true) → (hit ≡ false → rest ≡ next)
+    → pick found true rest ≡ pick (pick hit true found) true next
+unfolding pick
+flag-on true true stop on = refl
+flag-on true false stop on = stop refl
+flag-on false true stop on = refl
+flag-on false false stop on = on refl
+
+-- with no byte left the flag is the answer
+pub flag-end : (found : Bool) {rest : Bool} → rest ≡ false → pick found true rest ≡ found
+unfolding pick
+flag-end true e = refl
+flag-end false e = e
 
 pub has-not-at : (b : ℕ) (s : List ℕ) (i : ℕ) → has b s ≡ false → i < length s → eqb (getD s i 0) b ≡ false
 unfolding has

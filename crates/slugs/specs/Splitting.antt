@@ -1,9 +1,10 @@
 -- Where a whole line parts into boot text and init text.
-use Prim.Native.Nat.{ℕ, suc}
+use Prim.Native.Nat.{ℕ, suc, _+_, _-_, _≤_, _<_}
+use mathlib.Core.Path.{_≡_}
 use mathlib.Core.Bool.{Bool, true, false, not}
 use mathlib.Core.List.{List, [], _∷_}
 use lib.Dec.{eqb}
-use lib.ListN.{take, drop}
+use lib.ListN.{length, take, drop}
 use Rattle.answers.specs.Pick.{pick}
 use Rattle.fields.specs.Tags.{tagAt}
 use Rattle.slugs.specs.Bytes.{space, quote, dash}
@@ -30,6 +31,12 @@ splits even s = pick even (tagAt separator s 0) false
 unfoldable pub splitFrom : Bool → List ℕ → ℕ
 splitFrom even [] = 0
 splitFrom even (x ∷ xs) = pick (splits even (x ∷ xs)) 0 (suc (splitFrom (evenAfter even x) xs))
+
+-- from a place i, r bytes on: nothing splits between the two, and no quote stands there
+pub record Skips (s : List ℕ) (i r : ℕ) : Type 0 where
+  pub least : 1 ≤ r
+  pub within : i < length s → i + r ≤ length s
+  pub same : (even : Bool) → splitFrom even (drop (i + 1) s) ≡ r - 1 + splitFrom even (drop (i + r) s)
 
 abbrev pub splitAt : List ℕ → ℕ
 splitAt s = splitFrom true s

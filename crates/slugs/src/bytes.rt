@@ -8,6 +8,9 @@
 //
 // Tests of bytes.
 ghost use mathlib.Core.Path.{_≡_};
+ghost use mathlib.Core.Bool.{true};
+ghost use lib.Dec.{eqb};
+ghost use Rattle.answers.specs.Pick.{pick};
 ghost use Rattle.slugs.specs.Bytes.{blank, printable, every, has};
 
 // A tab, a line end, a space: what trimming takes.
@@ -45,16 +48,25 @@ pub fn all_printable(s: &[u8]) -> bool
     true
 }
 
-// Is the byte among those of s?
+// The answer after one byte more.
+fn found_after(found: bool, at_place: u8, byte: u8) -> bool
+    ensures { λ r. ⌜ r ≡ pick (eqb «at_place» byte) true found ⌝ }
+{
+    if at_place == byte {
+        return true;
+    }
+    found
+}
+
+// Is the byte among those of s? With no way out of the loop before its end, many bytes are looked at in one step.
 pub fn has(s: &[u8], byte: u8) -> bool
     ensures { λ r. ⌜ r ≡ has byte (now (s .entry)) ⌝ }
 {
+    let mut found = false;
     let mut i = 0;
     while i < s.len() {
-        if s[i] == byte {
-            return true;
-        }
+        found = found_after(found, s[i], byte);
         i += 1;
     }
-    false
+    found
 }

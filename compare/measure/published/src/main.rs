@@ -2,7 +2,7 @@
 
 use linux_loader::cmdline::Cmdline;
 use linux_loader::loader::{self, KernelLoader};
-use measure::contestants::{Contestant, Lines, Load};
+use measure::contestants::{Contestant, Lines, Load, Putting, Writing};
 use measure::images::{Pairs, CAPACITY, START};
 use rekusoyen::loader::{bootparam, elf::PvhBootCapability, KernelLoaderResult};
 use std::io::Cursor;
@@ -42,6 +42,28 @@ impl Contestant for Published {
             written.into_bytes_with_nul()
         };
         Box::new(move || lines.iter().map(text).collect())
+    }
+
+    fn parsed(&self, text: &str) -> Lines {
+        let line = Cmdline::try_from(text, CAPACITY).expect("a good text");
+        let written = move || line.as_cstring().expect("a good line");
+        Box::new(move || vec![written().into_bytes_with_nul()])
+    }
+
+    fn writing(&self, text: &str) -> Writing {
+        let line = Cmdline::try_from(text, CAPACITY).expect("a good text");
+        Box::new(move || {
+            let written = line.as_cstring().expect("a good line");
+            written.into_bytes_with_nul()
+        })
+    }
+
+    fn putting<'a>(&self, guest: &'a mut [u8], text: &str) -> Putting<'a> {
+        let line = Cmdline::try_from(text, CAPACITY).expect("a good text");
+        let memory = region_over(guest);
+        Box::new(move || {
+            loader::load_cmdline(&memory, GuestAddress(0), &line).expect("a good line");
+        })
     }
 }
 

@@ -1,14 +1,24 @@
--- `rekusoyen_line_add_virtio_mmio_device`: the reply of the line that the bytes hold, settled over them.
+-- `rekusoyen_line_add_virtio_mmio_device`: the tests of the line, then the insertion in place is told.
 use borrow.Author.Needs.{needs}
+use native.Mathlib.Omega.{arith}
+use Rattle.cmdline.specs.Device.{addDevice}
+use Rattle.capi.specs.Lines.{idBy, textIn, the-boot}
+use Rattle.capi.proofs.LinesLaws.{call-refused, header-sized, device-called}
 use Rattle.capi.proofs.rekusoyen_line_add_virtio_mmio_device.Statement.{statement}
 use Rattle.capi.proofs.rekusoyen_line_add_virtio_mmio_device.Tie as tie
 
+part-add-virtio-mmio-device-end : tie.Need-part-add-virtio-mmio-device-end
+part-add-virtio-mmio-device-end c = omega (arith, header-sized (c .before .before .before .before .before .before .args .line .now) (c .before .before .read-header .ensures) (c .enum-told .given .1) .size)
+
 returns : tie.Need-returns
 returns c =
-    let at-add-virtio-mmio-device = c .before .before .before .before in
-    let at-id-by = at-add-virtio-mmio-device .before in
-    let at-look = at-id-by .before .before in
-    rw (at-add-virtio-mmio-device .add-virtio-mmio-device .ensures, at-id-by .id-by .ensures, at-look .look .ensures) at (c .before .before .settle .ensures)
+    let args = c .before .before .before .before .before .before .before .before .args in
+    call-refused (args .line .now) (c .before .before .before .before .read-header .ensures) the-boot (addDevice (textIn (args .line .now)) (args .size) (args .address) (args .irq) (idBy (args .has-id) (args .id))) (c .before .before .gate .given .1) (c .number .ensures)
+
+returns-2 : tie.Need-returns-2
+returns-2 c =
+    let args = c .before .before .before .before .before .before .before .before .before .before .before .before .before .before .args in
+    device-called (args .line .now) (c .before .before .before .before .before .before .before .before .before .before .read-header .ensures) (c .before .before .before .before .before .before .before .before .enum-told .given .1) (args .size) (args .address) (args .irq) (idBy (args .has-id) (args .id)) _ (c .before .before .before .before .before .before .before .before .before .before .before .before .id-by .ensures) (c .before .before .before .before .before .before .add-virtio-mmio-device .ensures) (c .before .before .tell .ensures)
 
 pub rekusoyen-line-add-virtio-mmio-device-spec : {M : Type 1} → statement M
 rekusoyen-line-add-virtio-mmio-device-spec =
@@ -16,7 +26,15 @@ rekusoyen-line-add-virtio-mmio-device-spec =
     (tie.spec
     (λ c κs. search needs)
     (λ c κs. search needs)
+    (λ c. search needs)
+    (λ c κs. search needs)
+    (λ c. search needs)
+    (λ c. search needs)
+    (λ c. search needs)
+    part-add-virtio-mmio-device-end
     (λ c κs. search needs)
     (λ c κs. search needs)
     (λ c. search needs)
-    returns)
+    returns
+    (λ c. search needs)
+    returns-2)

@@ -9,31 +9,20 @@ use Rattle.capi.proofs.rekusoyen_line_equal.Tie as tie
 
 slice-write-out : tie.Need-slice-write-out
 slice-write-out c =
-    let at-look2 = c .before .before .before .before .before in
-    let at-look = at-look2 .before .before in
-    let at-require = at-look .before in
-    let start = at-require .before .before .before .before in
-    let args = start .args in
-    let one : length (args .out .now) ≡ 1 = equal-one (args .a .now) (args .b .now) (args .out .now) (at-require .require .ensures) (at-look .look .ensures) (at-look2 .look2 .ensures) (c .before .before .enum-told .given .1) in
+    let args = c .before .before .before .before .before .before .before .before .before .before .before .before .before .before .args in
+    let one : length (args .out .now) ≡ 1 = equal-one (args .a .now) (args .b .now) (args .out .now) (c .before .before .before .before .before .before .before .before .before .before .require .ensures) (c .before .before .before .before .before .before .before .before .before .read-header .ensures) (c .before .before .before .before .before .before .before .before .read-header2 .ensures) (c .before .before .before .before .before .before .enum-told .given .1) in
     omega (arith, one)
 
 returns : tie.Need-returns
 returns c =
-    let at-look2 = c .before .before .before .before .before in
-    let at-look = at-look2 .before .before in
-    let at-require = at-look .before in
-    let start = at-require .before .before .before .before in
-    let args = start .args in
-    equal-refused (args .a .now) (args .b .now) (args .out .now) (at-require .require .ensures) (at-look .look .ensures) (at-look2 .look2 .ensures) (c .before .before .gate .given .1) (c .number .ensures)
+    let args = c .before .before .before .before .before .before .before .before .before .before .args in
+    equal-refused (args .a .now) (args .b .now) (args .out .now) (c .before .before .before .before .before .before .require .ensures) (c .before .before .before .before .before .read-header .ensures) (c .before .before .before .before .read-header2 .ensures) (c .before .before .gate .given .1) (c .number .ensures)
 
 returns-2 : tie.Need-returns-2
 returns-2 c =
-    let at-look2 = c .before .before .before .before .before in
-    let at-look = at-look2 .before .before in
-    let at-require = at-look .before in
-    let start = at-require .before .before .before .before in
-    let args = start .args in
-    equal-told (args .a .now) (args .b .now) (args .out .now) (at-require .require .ensures) (at-look .look .ensures) (at-look2 .look2 .ensures) (c .before .before .enum-told .given .1) (c .before .eq .ensures) (c .flag .ensures)
+    let args = c .before .before .before .before .before .before .before .before .before .before .before .before .before .before .args in
+    equal-told (args .a .now) (args .b .now) (args .out .now) (c .before .before .before .before .before .before .before .before .before .before .require .ensures) (c .before .before .before .before .before .before .before .before .before .read-header .ensures) (c .before .before .before .before .before .before .before .before .read-header2 .ensures) (c .before .before .before .before .before .before .enum-told .given .1)
+    (c .before .before .before .before .before .text-at .ensures) (c .before .before .before .before .text-at2 .ensures) (c .before .before .before .text-at3 .ensures) (c .before .before .text-at4 .ensures) (c .before .same-line .ensures) (c .flag .ensures)
 
 pub rekusoyen-line-equal-spec : {M : Type 1} → statement M
 rekusoyen-line-equal-spec =
@@ -45,6 +34,10 @@ rekusoyen-line-equal-spec =
     (λ c. search needs)
     (λ c κs. search needs)
     (λ c. search needs)
+    (λ c κs. search needs)
+    (λ c κs. search needs)
+    (λ c κs. search needs)
+    (λ c κs. search needs)
     (λ c κs. search needs)
     (λ c κs. search needs)
     slice-write-out

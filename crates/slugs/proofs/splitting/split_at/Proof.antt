@@ -22,12 +22,29 @@ returns c =
     let stop = split-stop (at-turn .even) (c .before .before .before .before .before .args .s .now) (at-turn .i) (omega arith) (sym (c .before .splits .ensures) ∙ c .if1 .taken) in
     (omega arith, omega arith)
 
+add-i : tie.Need-add-i Inv-loop μ-loop
+add-i c =
+    let at-turn = c .before .before .before .before .before .before .loop in
+    let within = c .stride .ensures .within (omega arith) in
+    omega arith
+
+loop-less : tie.Need-loop-less Inv-loop μ-loop
+loop-less c =
+    let at-turn = c .before .before .before .before .before .before .loop in
+    let least = c .stride .ensures .least in
+    let within = c .stride .ensures .within (omega arith) in
+    omega arith
+
 loop-again : tie.Need-loop-again Inv-loop μ-loop
 loop-again c =
-    let at-turn = c .before .before .before .before .before .loop in
-    let s = c .before .before .before .before .before .before .before .args .s .now in
-    let on = split-on (at-turn .even) s (at-turn .i) (omega arith) (sym (c .before .before .before .splits .ensures) ∙ c .before .before .if1 .left) in
-    let next = ap (λ e. splitFrom e (drop (at-turn .i + 1) s)) (c .even-after .ensures) in
+    let at-turn = c .before .before .before .before .before .before .loop in
+    let s = c .before .before .before .before .before .before .before .before .args .s .now in
+    let on = split-on (at-turn .even) s (at-turn .i) (omega arith) (sym (c .before .before .before .before .splits .ensures) ∙ c .before .before .before .if1 .left) in
+    let next = ap (λ e. splitFrom e (drop (at-turn .i + 1) s)) (c .before .even-after .ensures) in
+    let skips = c .stride .ensures in
+    let least = skips .least in
+    let within = skips .within (omega arith) in
+    let same = skips .same (c .before .even-after .result) in
     (omega arith, omega arith)
 
 returns-2 : tie.Need-returns-2 Inv-loop μ-loop
@@ -47,7 +64,8 @@ split-at-spec =
     returns
     (λ c. search needs)
     (λ c κs. search needs)
-    (λ c. search needs)
-    (λ c. search needs)
+    (λ c κs. search needs)
+    add-i
+    loop-less
     loop-again
     returns-2)
