@@ -484,25 +484,18 @@ module _ (bytes : List ℕ) (address : ℕ) (guest : List ℕ) {header : Header}
       }
 
   pub load-told : {answer : Answer} {r : ℕ} {boot init after : List ℕ} → header .gate ≡ Open → boot ≡ take (header .boots) (drop Lines.bootPlace bytes)
-      → init ≡ take (header .inits) (drop Lines.initPlace bytes) → lines.LineLoads (writing.bare (take limit boot) (take limit init)) address guest answer after
+      → init ≡ take (header .inits) (drop Lines.initPlace bytes) → lines.LineLoads (writing.bare boot init) address guest answer after
       → r ≡ lines.lineNumber answer → Lines.LineLoadsFrom bytes address guest r after
   unfolding loading.behindTests Lines.headerBy
   load-told {answer} {r} {boot} {init} {after} e eb ei loads er =
       let t = Lines.textIn bytes in
-      let sized = header-sized bytes reads e in
-      let low = sized .boots in
-      let high = sized .inits in
       let gate : askedAll Open row ≡ askedAll Open (Lines.lineTests bytes ++ row) =
       sym (asked-append Open (Lines.lineTests bytes) row ∙ ap (λ (g : Gate). askedAll g row) (sym (header-gate bytes reads) ∙ e)) in
-      let same-boot : take limit boot ≡ t .boot =
-      ap (take limit) (eb ∙ ap (λ (h : Header). take (h .boots) (drop Lines.bootPlace bytes)) reads)
-      ∙ clipped-text (le 8 bytes 0) (drop Lines.bootPlace bytes) (omega arith) in
-      let same-init : take limit init ≡ t .init =
-      ap (take limit) (ei ∙ ap (λ (h : Header). take (h .inits) (drop Lines.initPlace bytes)) reads)
-      ∙ clipped-text (le 8 bytes 8) (drop Lines.initPlace bytes) (omega arith) in
+      let same-boot : boot ≡ t .boot = eb ∙ ap (λ (h : Header). take (h .boots) (drop Lines.bootPlace bytes)) reads in
+      let same-init : init ≡ t .init = ei ∙ ap (λ (h : Header). take (h .inits) (drop Lines.initPlace bytes)) reads in
       let own : lines.LineLoads (writing.bare (t .boot) (t .init)) address guest answer after =
       subst (λ (x : List ℕ). lines.LineLoads (writing.bare (t .boot) x) address guest answer after) same-init
-      (subst (λ (x : List ℕ). lines.LineLoads (writing.bare x (take limit init)) address guest answer after) same-boot loads) in
+      (subst (λ (x : List ℕ). lines.LineLoads (writing.bare x init) address guest answer after) same-boot loads) in
       record {
         answer = er ∙ ap lines.lineNumber (own .answer) ∙ ap (λ (g : Gate). lines.lineNumber (loading.behindGate Refused g plan .answer)) gate;
         memory = own .memory ∙ ap (λ (g : Gate). pour (loading.behindGate Refused g plan .stream) guest) gate;

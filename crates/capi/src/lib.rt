@@ -298,7 +298,7 @@ pub extern "C" fn rekusoyen_line_load(guest: &mut [u8], address: u64, line: &[u8
         Gate::Open => {
             let boot = lines::text_at(line, lines::BOOT, header.boots);
             let init = lines::text_at(line, lines::INIT, header.inits);
-            let answer = loader::load_line(guest, GuestAddress(address), boot, init);
+            let answer = loader::load_texts(guest, GuestAddress(address), boot, init);
             lines::load_number(answer)
         }
     }

@@ -19,7 +19,8 @@ use Rattle.slugs.specs.Bytes.{space, quote, dash, equals}
 use Rattle.slugs.specs.Splitting.{separator}
 use Rattle.cmdline.specs.Insertion.{callNumber}
 use Rattle.cmdline.specs.Writing.{writtenNumber}
-use Rattle.cmdline.specs.Calls.{Making, makes-new, makes-from, Call, inserts, inserts-str, inserts-init-args, Said, answered, wrote, compared, told, run}
+use Rattle.cmdline.specs.Calls.{Making, makes-new, makes-from, Call, inserts, inserts-str, inserts-init-args, Said, answered, wrote, compared, run}
+use Rattle.cmdline.specs.Calls as calls
 
 -- ---- the images
 
@@ -61,7 +62,7 @@ unfoldable pub saidNumber : Said → ℕ
 saidNumber (answered a) = callNumber a
 saidNumber (wrote w bytes) = writtenNumber w
 saidNumber (compared b) = 0
-saidNumber (told values) = 0
+saidNumber (calls.told values) = 0
 
 unfoldable pub lastNumber : List Said → ℕ
 lastNumber [] = 0

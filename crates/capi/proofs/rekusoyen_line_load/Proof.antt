@@ -12,7 +12,7 @@ returns c =
 returns-2 : tie.Need-returns-2
 returns-2 c =
     let args = c .before .before .before .before .before .before .before .before .before .before .before .before .args in
-    load-told (args .line .now) (args .address) (args .guest .now) (c .before .before .before .before .before .before .before .before .before .read-header .ensures) (c .before .before .before .before .before .before .before .enum-told .given .1) (c .before .before .before .before .before .before .text-at .ensures) (c .before .before .before .before .before .text-at2 .ensures) (c .before .before .before .load-line .ensures) (c .load-number .ensures)
+    load-told (args .line .now) (args .address) (args .guest .now) (c .before .before .before .before .before .before .before .before .before .read-header .ensures) (c .before .before .before .before .before .before .before .enum-told .given .1) (c .before .before .before .before .before .before .text-at .ensures) (c .before .before .before .before .before .text-at2 .ensures) (c .before .before .before .load-texts .ensures) (c .load-number .ensures)
 
 pub rekusoyen-line-load-spec : {M : Type 1} → statement M
 rekusoyen-line-load-spec =
