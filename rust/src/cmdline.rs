@@ -314,7 +314,10 @@ impl Cmdline {
     /// # Ok::<(), Error>(())
     /// ```
     pub fn as_cstring(&self) -> Result<CString> {
-        let mut out = [0; LIMIT];
+        let (boots, inits) = (self.number(0), self.number(1));
+        let between = if inits == 0 { 0 } else { 4 };
+        // just the bytes that the line takes with its zero: the string keeps them
+        let mut out = vec![0; boots + between + inits + 1];
         let mut count = [0];
         // SAFETY: three slices of their lengths; both outputs are borrowed by this call alone.
         let number = unsafe {
@@ -328,8 +331,8 @@ impl Cmdline {
             )
         };
         told(number, "")?;
-        let written = out[..count[0] as usize].to_vec();
-        CString::from_vec_with_nul(written).map_err(|_| Error::NullTerminator)
+        out.truncate(count[0] as usize);
+        CString::from_vec_with_nul(out).map_err(|_| Error::NullTerminator)
     }
 
     /// A line of a capacity from a text: boot arguments, and init arguments behind the first ` -- ` outside of double quotes.

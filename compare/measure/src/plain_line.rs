@@ -63,7 +63,12 @@ impl Parts {
         if !self.init.is_empty() && self.boot.is_empty() {
             return Err(Error::NoBootArgsInserted);
         }
-        if self.boot.bytes().chain(self.init.bytes()).any(|byte| byte == 0) {
+        if self
+            .boot
+            .bytes()
+            .chain(self.init.bytes())
+            .any(|byte| byte == 0)
+        {
             return Err(Error::NullTerminator);
         }
         Ok(())
@@ -178,13 +183,23 @@ mod tests {
     #[test]
     fn parts_are_the_librarys() {
         let texts = [
-            "", " ", " -- ", "a", " a -- b ", "a -- b -- c", "\"a -- b\" -- c", "-- a", " -- a", "a\0b", "a\t--\tb",
+            "",
+            " ",
+            " -- ",
+            "a",
+            " a -- b ",
+            "a -- b -- c",
+            "\"a -- b\" -- c",
+            "-- a",
+            " -- a",
+            "a\0b",
+            "a\t--\tb",
         ];
         for capacity in [0, 1, 4, 16, 4096, 4097] {
             for text in texts {
                 let library = Cmdline::try_from(text, capacity);
                 let plain = Parts::parse(text, capacity);
-                assert_eq!(plain.as_ref().map(|_| ()), library.as_ref().map(|_| ()).map_err(|e| e));
+                assert_eq!(plain.as_ref().map(|_| ()), library.as_ref().map(|_| ()));
                 if let (Ok(plain), Ok(library)) = (plain, library) {
                     let written = library.as_cstring().map(|line| line.into_bytes_with_nul());
                     assert_eq!(plain.written(), written);
