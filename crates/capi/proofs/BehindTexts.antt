@@ -26,7 +26,7 @@ use Rattle.loader.specs.declared.Answer.the-variants.{Refused}
 use Rattle.loader.specs.Lines as lines
 use Rattle.capi.specs.Lines
 use Rattle.capi.proofs.HoldsLaws.{holds-text}
-use Rattle.capi.proofs.LinesStay.{AppendsTo, call-holds, insert-appends, multiple-appends, str-appends, init-appends, device-appends}
+use Rattle.capi.proofs.LinesStay.{call-holds, insert-appends, multiple-appends, str-appends, init-appends, device-appends}
 
 same-tests : (a b : List ℕ) → Lines.SameLine a b → Lines.lineTests a ≡ Lines.lineTests b
 unfolding Lines.lineTests
@@ -45,7 +45,7 @@ holds-same a b t g h =
 
 -- ---- a call
 
-module _ {part : Lines.Part} {plan : Text → Plan} (k : AppendsTo part plan) (a b : List ℕ) {r q : ℕ} {left last : List ℕ} (s : Lines.SameLine a b)
+module _ {part : Lines.Part} {plan : Text → Plan} (k : Lines.AppendsTo part plan) (a b : List ℕ) {r q : ℕ} {left last : List ℕ} (s : Lines.SameLine a b)
     (x : Lines.LineCalls part a (plan (Lines.textIn a)) r left) (y : Lines.LineCalls part b (plan (Lines.textIn b)) q last) where
   abbrev row : List ℕ → List Test
   row bytes = Lines.lineTests bytes ++ plan (Lines.textIn bytes) .tests

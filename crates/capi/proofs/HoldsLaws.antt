@@ -1,5 +1,5 @@
 -- Laws of bytes that hold texts: another text put at its place leaves the numbers and the text beside it.
-use Prim.Native.Nat.{ℕ, zero, suc, _+_, _-_, _≤_, _<_}
+use Prim.Native.Nat.{ℕ, zero, suc, _+_, _-_, _≤_}
 use mathlib.Core.Path.{_≡_, refl, sym, ap, _∙_}
 use mathlib.Core.List.{List, [], _∷_, _++_}
 use native.Mathlib.Omega.{arith}
@@ -10,15 +10,15 @@ use Rattle.fields.specs.Numbers.{le, leBytes}
 use Rattle.fields.proofs.CopyingLaws.{sets-below, sets-above}
 use Rattle.fields.proofs.NumbersLaws.{length-le-bytes, le-written}
 use Rattle.slugs.proofs.PartLaws.{sets-from}
-use Rattle.cmdline.specs.Limit.{limit, allowed}
-use Rattle.cmdline.specs.Text.{Text, sizeOf, counted, empty}
+use Rattle.cmdline.specs.Limit.{limit}
+use Rattle.cmdline.specs.Text.{Text, sizeOf, empty}
 use Rattle.cmdline.specs.Fitting.{Fits, Short}
 use Rattle.cmdline.specs.Insertion.{withBoot, withInit}
 use Rattle.cmdline.proofs.TextLaws.{size-boot}
 use Rattle.cmdline.proofs.MakingLaws.{most-allowed}
 use Rattle.cmdline.proofs.ZeroLaws.{zeros}
 use Rattle.capi.specs.Lines
-use Rattle.capi.proofs.LinesLaws.{Sized, line-sized, boot-long, init-long}
+use Rattle.capi.proofs.LinesLaws.{line-sized, boot-long, init-long}
 
 -- ---- a run of stores, seen from elsewhere
 

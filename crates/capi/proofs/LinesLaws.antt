@@ -5,8 +5,7 @@ use mathlib.Core.Bool.{Bool, true}
 use mathlib.Core.List.{List, [], _∷_, _++_}
 use native.Mathlib.Omega.{arith}
 use native.Mathlib.Decide.{decLe}
-use native.Mathlib.Numerals.{add-one}
-use lib.Dec.{leb, eqb}
+use lib.Dec.{eqb}
 use lib.ListN.{length, set, take, drop, replicate, length-drop, length-take, length-append, drop-of-length-le, replicate-append-replicate}
 use lib.Seq.{sets, take-all, take-suc-set, length-take-le}
 use borrow.Author.Tests.{leb-true, eqb-true}
@@ -18,7 +17,7 @@ use Rattle.answers.specs.declared.Refusal.{Refusal}
 use Rattle.answers.specs.declared.Refusal.the-variants.{NoRoom, InvalidCapacity}
 use Rattle.answers.specs.declared.Gate.{Gate}
 use Rattle.answers.specs.declared.Gate.the-variants.{Open, Shut}
-use Rattle.answers.proofs.TestsLaws.{open-all, all-open, shut-stays, asked-append, hold-left, hold-right}
+use Rattle.answers.proofs.TestsLaws.{open-all, shut-stays, asked-append, hold-left, hold-right}
 use Rattle.fields.specs.Numbers.{le, leBytes}
 use Rattle.slugs.specs.Bytes.{equals}
 use Rattle.slugs.specs.Trimming.{trim}
@@ -35,7 +34,7 @@ use Rattle.cmdline.specs.declared.in_place.Appended.the-variants as appended
 use Rattle.cmdline.specs.Limit.{limit, allowed}
 use Rattle.cmdline.specs.Text.{Text, sizeOf, counted, bootGap, initGap, bootRoom, initRoom}
 use Rattle.cmdline.specs.Insertion.{Plan, answerOf, callNumber, settled, insertStr, insertInitArgs, insert, insertMultiple}
-use Rattle.cmdline.specs.Device.{deviceText, addDevice}
+use Rattle.cmdline.specs.Device.{addDevice}
 use Rattle.cmdline.specs.Making.{new, sizeTests, tryFrom}
 use Rattle.cmdline.specs.InPlace.{Append, strAppend, pairAppend, listAppend, deviceAppend, initAppend, AppendsBy, Appends}
 use Rattle.cmdline.specs.Writing as writing

@@ -2,20 +2,19 @@
 -- (`insert-stays` and its like, `new-stays`, `try-from-stays`). The texts that they then hold are those of the call's plan, or, where it is
 -- refused, those that they held (`call-texts`).
 use Prim.Native.Nat.{ℕ, _≤_}
-use mathlib.Core.Path.{_≡_, refl, sym, ap, _∙_, subst, subst⁻¹}
-use mathlib.Core.List.{List, _∷_, _++_}
+use mathlib.Core.Path.{_≡_, refl, ap, _∙_, subst, subst⁻¹}
+use mathlib.Core.List.{List, _∷_}
 use native.Mathlib.Omega.{arith}
 use lib.ListN.{length}
 use borrow.Author.Tests.{eq-eqb}
 use Rattle.answers.specs.Tests.{askedAll, AllHold}
 use Rattle.answers.specs.declared.Gate.{Gate}
 use Rattle.answers.specs.declared.Gate.the-variants.{Open, Shut}
-use Rattle.answers.proofs.TestsLaws.{open-all, all-open, asked-append, hold-left, hold-right}
+use Rattle.answers.proofs.TestsLaws.{open-all, all-open, asked-append}
 use Rattle.cmdline.specs.declared.DeviceId.{DeviceId}
 use Rattle.cmdline.specs.Limit.{limit}
 use Rattle.cmdline.specs.Text.{Text}
 use Rattle.cmdline.specs.Fitting.{Fits, Short}
-use Rattle.cmdline.specs.Growing.{Extends}
 use Rattle.cmdline.specs.Insertion.{Plan, planGate, settled, insert, insertMultiple, insertStr, insertInitArgs}
 use Rattle.cmdline.specs.Device.{addDevice}
 use Rattle.cmdline.specs.Making.{new, tryFrom}
@@ -29,30 +28,24 @@ use Rattle.capi.proofs.HoldsLaws.{line-holds, holds-text, holds-line, p
 
 -- ---- what appends to one text
 
--- a plan of which the texts fit where its tests hold, begin with what there was, and differ in one part alone
-pub record AppendsTo (part : Lines.Part) (plan : Text → Plan) : Type 0 where
-  pub fits : (t : Text) → AllHold (plan t .tests) → Fits (plan t .text)
-  pub extends : (t : Text) → Extends t (plan t .text)
-  pub one : (t : Text) → plan t .text ≡ Lines.withOne part t (plan t .text)
-
-pub insert-appends : (key value : List ℕ) → AppendsTo Lines.the-boot (λ t. insert t key value)
+pub insert-appends : (key value : List ℕ) → Lines.AppendsTo Lines.the-boot (λ t. insert t key value)
 unfolding insert insertStr
 insert-appends key value = record { fits = λ t. insert-fits t key value; extends = λ t. insert-extends t key value; one = λ t. refl }
 
-pub multiple-appends : (key values ends : List ℕ) → AppendsTo Lines.the-boot (λ t. insertMultiple t key values ends)
+pub multiple-appends : (key values ends : List ℕ) → Lines.AppendsTo Lines.the-boot (λ t. insertMultiple t key values ends)
 unfolding insertMultiple insertStr
 multiple-appends key values ends =
     record { fits = λ t. multiple-fits t key values ends; extends = λ t. multiple-extends t key values ends; one = λ t. refl }
 
-pub str-appends : (slug : List ℕ) → AppendsTo Lines.the-boot (λ t. insertStr t slug)
+pub str-appends : (slug : List ℕ) → Lines.AppendsTo Lines.the-boot (λ t. insertStr t slug)
 unfolding insertStr
 str-appends slug = record { fits = λ t. str-fits t slug; extends = λ t. str-extends t slug; one = λ t. refl }
 
-pub init-appends : (slug : List ℕ) → AppendsTo Lines.the-init (λ t. insertInitArgs t slug)
+pub init-appends : (slug : List ℕ) → Lines.AppendsTo Lines.the-init (λ t. insertInitArgs t slug)
 unfolding insertInitArgs
 init-appends slug = record { fits = λ t. init-fits t slug; extends = λ t. init-extends t slug; one = λ t. refl }
 
-pub device-appends : (size base irq : ℕ) (id : DeviceId) → AppendsTo Lines.the-boot (λ t. addDevice t size base irq id)
+pub device-appends : (size base irq : ℕ) (id : DeviceId) → Lines.AppendsTo Lines.the-boot (λ t. addDevice t size base irq id)
 unfolding addDevice insertStr
 device-appends size base irq id =
     record { fits = λ t. device-fits t size base irq id; extends = λ t. device-extends t size base irq id; one = λ t. refl }
@@ -65,7 +58,7 @@ put-holds : (part : Lines.Part) (bytes : List ℕ) (t u : Text) → Lines.Holds 
 put-holds Lines.the-boot bytes t u h own short = put-boot bytes t h (u .boot) (short .boot)
 put-holds Lines.the-init bytes t u h own short = put-init bytes t h (u .init) (own .boot) (short .init)
 
-module _ {part : Lines.Part} {plan : Text → Plan} (a : AppendsTo part plan) (bytes : List ℕ) where
+module _ {part : Lines.Part} {plan : Text → Plan} (a : Lines.AppendsTo part plan) (bytes : List ℕ) where
   abbrev t : Text
   t = Lines.textIn bytes
 

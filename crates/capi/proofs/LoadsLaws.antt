@@ -12,7 +12,6 @@ use Rattle.answers.specs.declared.Refusal.the-variants.{NoRoom}
 use Rattle.guest.specs.declared.Given.{Given}
 use Rattle.elf.specs.declared.Answer.{Answer}
 use Rattle.elf.specs.declared.ElfNote.{ElfNote}
-use Rattle.guest.specs.Loading.{Plan, Loads}
 use Rattle.guest.specs.Room.{memoryOf}
 use Rattle.guest.specs.Stream.{pour}
 use Rattle.elf.specs.Load.{elfNumber, elfValues, noteNumber, noteValues, LoadSays}

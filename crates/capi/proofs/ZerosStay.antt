@@ -1,21 +1,21 @@
 -- A line that is made here has zeros behind its texts (`new-zero`, `try-from-zero`), and every call on it keeps them (`insert-zero` and its like).
-use Prim.Native.Nat.{ℕ, _+_, _≤_, _<_}
-use mathlib.Core.Path.{_≡_, refl, sym, ap, _∙_, subst, subst⁻¹}
+use Prim.Native.Nat.{ℕ, _+_, _≤_}
+use mathlib.Core.Path.{_≡_, refl, ap, _∙_, subst, subst⁻¹}
 use mathlib.Core.List.{List, _∷_, _++_}
 use native.Mathlib.Omega.{arith}
-use lib.ListN.{length, getD, replicate}
+use lib.ListN.{length, replicate}
 use lib.Seq.{sets}
 use borrow.Author.Tests.{eq-eqb}
 use Rattle.answers.specs.Tests.{askedAll, AllHold}
 use Rattle.answers.specs.declared.Gate.{Gate}
 use Rattle.answers.specs.declared.Gate.the-variants.{Open, Shut}
 use Rattle.answers.proofs.TestsLaws.{open-all, all-open, hold-left, hold-right}
-use Rattle.fields.specs.Numbers.{le, leBytes}
+use Rattle.fields.specs.Numbers.{leBytes}
 use Rattle.fields.proofs.CopyingLaws.{sets-below, sets-above}
 use Rattle.fields.proofs.NumbersLaws.{length-le-bytes}
 use Rattle.cmdline.specs.declared.DeviceId.{DeviceId}
 use Rattle.cmdline.specs.Limit.{limit}
-use Rattle.cmdline.specs.Text.{Text, empty}
+use Rattle.cmdline.specs.Text.{Text}
 use Rattle.cmdline.specs.Fitting.{Fits, Short}
 use Rattle.cmdline.specs.Insertion.{Plan, settled, withBoot, insert, insertMultiple, insertStr, insertInitArgs}
 use Rattle.cmdline.specs.Device.{addDevice}
@@ -26,8 +26,8 @@ use Rattle.cmdline.proofs.HeldTexts.{fits-short}
 use Rattle.cmdline.proofs.MakingLaws.{new-most, from-most}
 use Rattle.cmdline.proofs.ZeroLaws.{zeros}
 use Rattle.capi.specs.Lines
-use Rattle.capi.proofs.HoldsLaws.{line-holds, blank-holds, put-boot, put-init, new-holds}
-use Rattle.capi.proofs.LinesStay.{AppendsTo, plan-short, call-holds, insert-appends, multiple-appends, str-appends, init-appends, device-appends}
+use Rattle.capi.proofs.HoldsLaws.{line-holds, blank-holds, put-boot, put-init}
+use Rattle.capi.proofs.LinesStay.{plan-short, call-holds, insert-appends, multiple-appends, str-appends, init-appends, device-appends}
 
 -- a text that is no shorter than the one before it, put in its place
 module _ (bytes : List ℕ) (t : Text) (h : Lines.Holds bytes t) (z : Lines.ZeroBehind bytes) (s : List ℕ) (short : length s ≤ limit) where
@@ -112,7 +112,7 @@ part-zero Lines.the-boot bytes t u h z sb si mb mi one after =
 part-zero Lines.the-init bytes t u h z sb si mb mi one after =
     init-zero bytes t h z (u .init) si mi (ap (λ (x : Text). x .boot) one) refl after
 
-pub call-zero : {part : Lines.Part} {plan : Text → Plan} → AppendsTo part plan → (bytes : List ℕ) {r : ℕ} {left : List ℕ}
+pub call-zero : {part : Lines.Part} {plan : Text → Plan} → Lines.AppendsTo part plan → (bytes : List ℕ) {r : ℕ} {left : List ℕ}
     → Lines.LineCalls part bytes (plan (Lines.textIn bytes)) r left → Lines.ZeroBehind bytes → Lines.ZeroBehind left
 call-zero {part} {plan} a bytes {r} {left} call z = split (askedAll Open (Lines.lineTests bytes ++ plan (Lines.textIn bytes) .tests)) refl call
   where

@@ -19,6 +19,8 @@ use Rattle.cmdline.specs.declared.in_place.Appended.{Appended}
 use Rattle.cmdline.specs.declared.in_place.Appended.the-variants as appended
 use Rattle.cmdline.specs.Limit.{limit}
 use Rattle.cmdline.specs.Text.{Text}
+use Rattle.cmdline.specs.Fitting.{Fits}
+use Rattle.cmdline.specs.Growing.{Extends}
 use Rattle.cmdline.specs.Insertion.{Plan, answerOf, callNumber, settled, withBoot, withInit}
 use Rattle.cmdline.specs.Making.{sizeTests}
 use Rattle.cmdline.specs.Writing.{writeTests, writtenOf, writtenNumber, writtenCount, writtenBytes, sameLine}
@@ -142,6 +144,12 @@ LineCalls part bytes plan r left = LineLeft (askedAll Open (lineTests bytes ++ p
 abbrev pub Makes : Gate → List ℕ → ℕ → List ℕ → List ℕ → ℕ → List ℕ → Type 0
 Makes gate bytes capacity boot init r left =
     LineLeft gate bytes (newLine (length bytes) (record { boot = boot; init = init; capacity = capacity })) r left
+
+-- a plan of which the texts fit where its tests hold, begin with what there was, and differ in one part alone
+pub record AppendsTo (part : Part) (plan : Text → Plan) : Type 0 where
+  pub fits : (t : Text) → AllHold (plan t .tests) → Fits (plan t .text)
+  pub extends : (t : Text) → Extends t (plan t .text)
+  pub one : (t : Text) → plan t .text ≡ withOne part t (plan t .text)
 
 -- what is told of an insertion in place: the number of its answer, and the length of the new text at its place
 abbrev pub appendedNumber : Appended → ℕ

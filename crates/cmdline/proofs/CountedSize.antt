@@ -1,7 +1,7 @@
 -- The counted size never exceeds the capacity: every accepted call leaves a line that fits, so does every making that is accepted, and so
 -- does any run of calls. `never-exceeds` is the theorem; `str-fits` and its like say it of each call. That a capacity never exceeds the limit
 -- stands beside each making: `new-most` and `from-most` (file MakingLaws).
-use Prim.Native.Nat.{ℕ, _+_, _≤_}
+use Prim.Native.Nat.{ℕ, _+_}
 use mathlib.Core.Path.{_≡_, refl}
 use mathlib.Core.Bool.{not}
 use mathlib.Core.List.{List, [], _∷_, _++_}

@@ -1,25 +1,16 @@
 -- Laws of the text of a device: its parts in turn, and how long they are.
 use Prim.Native.Nat.{ℕ, _/_, _%_, _^_, _≤_, _<_}
-use mathlib.Core.Path.{_≡_, refl, sym, ap, _∙_}
+use mathlib.Core.Path.{_≡_, refl}
 use mathlib.Core.List.{List, [], _∷_, _++_, append-assoc}
 use native.Mathlib.Omega.{arith}
 use lib.ListN.{length}
 use borrow.Author.Tests.{eq-eqb, ne-eqb}
 use Rattle.answers.specs.Pick.{pick}
-use Rattle.answers.specs.Tests.{asked}
-use Rattle.answers.specs.declared.Refusal.the-variants as refusal
-use Rattle.answers.specs.declared.Gate.{Gate}
-use Rattle.answers.specs.declared.Gate.the-variants.{Shut}
-use Rattle.answers.proofs.TestsLaws.{shut-stays}
-use Rattle.cmdline.specs.declared.Cmdline.{Cmdline}
-use Rattle.cmdline.specs.declared.Reply.{Reply}
 use Rattle.cmdline.specs.declared.DeviceId.{DeviceId}
 use Rattle.cmdline.specs.declared.DeviceId.the-variants.{Nothing, Number}
 use Rattle.slugs.specs.Bytes.{colon}
 use Rattle.cmdline.specs.Digits.{decimal, hexadecimal}
-use Rattle.cmdline.specs.Insertion.{insertStr}
-use Rattle.cmdline.specs.Device.{sizeText, idText, prefix, at-hex, frontText, deviceText, addDevice}
-use Rattle.cmdline.specs.Held.{textOf, holding, settledReply, replyOf}
+use Rattle.cmdline.specs.Device.{sizeText, idText, prefix, at-hex, frontText}
 use Rattle.slugs.specs.Stored.{Stored}
 use Rattle.cmdline.proofs.DeviceFits.{decimal-few}
 

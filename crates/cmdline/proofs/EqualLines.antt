@@ -17,7 +17,7 @@ use Rattle.answers.proofs.TestsLaws.{asked-append}
 use Rattle.cmdline.specs.declared.Written.the-variants as written
 use Rattle.slugs.specs.Bytes.{has}
 use Rattle.cmdline.specs.Text.{Text}
-use Rattle.cmdline.specs.Writing.{whole, headed, textTests, textGate, writeGate, writtenOf, writtenBytes, sameBytes, sameAnswer, sameLine, SameWritten}
+use Rattle.cmdline.specs.Writing.{whole, headed, textTests, textGate, writeGate, sameBytes, sameAnswer, sameLine, SameWritten}
 use Rattle.slugs.proofs.BytesLaws.{both-left, both-right}
 
 -- ---- texts

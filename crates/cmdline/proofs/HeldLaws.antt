@@ -14,9 +14,8 @@ use Rattle.answers.proofs.TestsLaws.{open-all}
 use Rattle.cmdline.specs.declared.Cmdline.{Cmdline}
 use Rattle.cmdline.specs.declared.Reply.{Reply}
 use Rattle.cmdline.specs.Limit.{limit}
-use Rattle.slugs.specs.Bytes.{every}
 use Rattle.cmdline.specs.Text.{Text, counted, bootGap, initGap, bootRoom, initRoom}
-use Rattle.cmdline.specs.Insertion.{answerOf, after, withBoot, withInit}
+use Rattle.cmdline.specs.Insertion.{answerOf, withBoot, withInit}
 use Rattle.cmdline.specs.Writing.{whole}
 use Rattle.slugs.specs.Stored.{Stored}
 use Rattle.cmdline.specs.Held.{textOf, holding, clampedLine, settledReply}

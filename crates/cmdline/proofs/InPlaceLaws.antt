@@ -2,15 +2,13 @@
 use Prim.Native.Nat.{ℕ, _+_, _≤_, min}
 use mathlib.Core.Path.{_≡_, refl, sym, ap, _∙_, subst, subst⁻¹}
 use mathlib.Core.Bool.{Bool, true, not}
-use mathlib.Core.List.{List, [], _∷_, _++_}
+use mathlib.Core.List.{List, _++_}
 use native.Mathlib.Omega.{arith}
 use lib.Dec.{leb}
 use lib.ListN.{length}
-use lib.Seq.{sets}
 use borrow.Author.Tests.{eq-eqb, ne-eqb}
 use Rattle.answers.specs.Pick.{pick}
 use Rattle.answers.specs.Tests.{Test, asked, askedAll, AllHold}
-use Rattle.answers.specs.declared.Refusal.{Refusal}
 use Rattle.answers.specs.declared.Refusal.the-variants as refusal
 use Rattle.answers.specs.declared.Gate.{Gate}
 use Rattle.answers.specs.declared.Gate.the-variants.{Open, Shut}
@@ -22,7 +20,6 @@ use Rattle.slugs.specs.Keys.{keyTests}
 use Rattle.slugs.specs.Values.{valueTests, pair}
 use Rattle.slugs.specs.Stored.{Stored}
 use Rattle.slugs.specs.Joining.{spaceAfter, joined}
-use Rattle.slugs.proofs.ValuesLaws.{pair-told}
 use Rattle.cmdline.specs.declared.Answer.the-variants as answer
 use Rattle.cmdline.specs.declared.Cmdline.{Cmdline}
 use Rattle.cmdline.specs.declared.DeviceId.{DeviceId}
@@ -34,9 +31,9 @@ use Rattle.cmdline.specs.Text.{sizeOf, bootGap, initGap, bootRoom, initR
 use Rattle.cmdline.specs.Insertion.{withBoot, withInit, insertStr, insertInitArgs, insert, insertMultiple}
 use Rattle.cmdline.specs.Device.{deviceText, addDevice}
 use Rattle.cmdline.specs.Held.{textOf, holding, settledReply, replyOf}
-use Rattle.cmdline.specs.InPlace.{Append, afterTests, strAppend, pairAppend, listAppend, deviceAppend, initAppend, AppendsBy, Appends, bootReply, initReply}
+use Rattle.cmdline.specs.InPlace.{afterTests, strAppend, pairAppend, listAppend, deviceAppend, initAppend, AppendsBy, Appends, bootReply, initReply}
 use Rattle.cmdline.proofs.TextLaws.{size-boot, room-clipped}
-use Rattle.cmdline.proofs.PlanLaws.{settled-as, asked-where}
+use Rattle.cmdline.proofs.PlanLaws.{asked-where}
 use Rattle.cmdline.proofs.HeldLaws.{boot-long, init-long, boot-held, init-held}
 
 -- ---- in place

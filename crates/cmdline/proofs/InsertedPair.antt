@@ -9,11 +9,10 @@ use Rattle.answers.proofs.TestsLaws.{open-all, hold-left}
 use Rattle.slugs.specs.Keys.{keyTests}
 use Rattle.slugs.specs.Values.{valueTests, pair}
 use Rattle.cmdline.specs.Growing.{Inserted}
-use Rattle.cmdline.specs.Text.{Text, counted, bootGap}
+use Rattle.cmdline.specs.Text.{Text, bootGap}
 use Rattle.cmdline.specs.Insertion.{planGate, insert, insertStr}
 use Rattle.cmdline.proofs.TextLaws.{joined-long, size-after-boot}
 use Rattle.slugs.proofs.ValuesLaws.{pair-told}
-use Rattle.slugs.specs.Joining.{joined}
 
 pub inserted-pair : (t : Text) (key value : List ℕ) → planGate (insert t key value) ≡ Open → Inserted t (insert t key value .text) key value
 unfolding insert insertStr

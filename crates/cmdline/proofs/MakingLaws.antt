@@ -2,7 +2,7 @@
 use Prim.Native.Nat.{ℕ, _≤_, min}
 use mathlib.Core.Path.{_≡_, ap, _∙_}
 use mathlib.Core.Bool.{Bool, true}
-use mathlib.Core.List.{List, [], _∷_}
+use mathlib.Core.List.{List}
 use native.Mathlib.Omega.{arith}
 use lib.Dec.{leb}
 use lib.ListN.{length, take, drop, replicate, length-replicate}
@@ -14,7 +14,7 @@ use Rattle.answers.specs.declared.Gate.the-variants.{Open}
 use Rattle.cmdline.specs.declared.Cmdline.{Cmdline}
 use Rattle.cmdline.specs.declared.Reply.{Reply}
 use Rattle.cmdline.specs.Limit.{limit, allowed}
-use Rattle.cmdline.specs.Text.{sizeOf, counted}
+use Rattle.cmdline.specs.Text.{sizeOf}
 use Rattle.slugs.specs.Trimming.{trim}
 use Rattle.slugs.specs.Splitting.{splitAt, bootPart, initPart}
 use Rattle.cmdline.specs.Making.{new, parted, sizeTests, tryFrom}

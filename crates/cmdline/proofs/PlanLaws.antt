@@ -1,20 +1,13 @@
 -- Laws of what a call asks, and of what stands after it.
-use mathlib.Core.Path.{_≡_, refl, sym, ap, _∙_}
-use mathlib.Core.Bool.{Bool, true}
-use mathlib.Core.List.{List, _++_}
-use lib.ListN.{length}
-use Rattle.answers.specs.Pick.{pick}
+use mathlib.Core.Path.{_≡_, refl, ap}
+use mathlib.Core.Bool.{Bool}
+use mathlib.Core.List.{List}
 use Rattle.answers.specs.Tests.{Test, asked, askedAll, AllHold}
 use Rattle.answers.specs.declared.Refusal.{Refusal}
-use Rattle.answers.specs.declared.Refusal.the-variants as refusal
 use Rattle.answers.specs.declared.Gate.{Gate}
 use Rattle.answers.specs.declared.Gate.the-variants.{Open, Shut}
 use Rattle.answers.proofs.TestsLaws.{open-all}
-use Prim.Native.Nat.{ℕ}
-use Rattle.slugs.specs.Bytes.{printable, every}
-use Rattle.slugs.specs.Trimming.{trim}
-use Rattle.cmdline.specs.Text.{Text, bootRoom}
-use Rattle.cmdline.specs.Insertion.{settled, insertStr}
+use Rattle.cmdline.specs.Insertion.{settled}
 
 -- the new matters only where the gate is open
 pub settled-as : {A : Type 0} (g : Gate) (old : A) {a b : A} → (g ≡ Open → a ≡ b) → settled g old a ≡ settled g old b

@@ -2,12 +2,12 @@
 -- a call is accepted exactly where every test of its row holds, and refused exactly by the first test that fails. Stated of each function's
 -- own contract: `new-answers`, `insert-answers` and their like; `as-cstring-answers` for writing, by value and over lent texts
 -- (`texts-answers`).
-use Prim.Native.Nat.{ℕ, _+_}
+use Prim.Native.Nat.{ℕ}
 use mathlib.Core.Path.{_≡_, refl, sym, ap, _∙_}
 use mathlib.Core.List.{List}
 use native.Mathlib.Omega.{arith}
 use lib.ListN.{length}
-use Rattle.answers.specs.Tests.{Test, askedAll, AllHold, FirstFails}
+use Rattle.answers.specs.Tests.{Test, askedAll}
 use Rattle.answers.specs.declared.Refusal.{Refusal}
 use Rattle.answers.specs.declared.Gate.{Gate}
 use Rattle.answers.specs.declared.Gate.the-variants.{Open, Shut}
@@ -21,7 +21,7 @@ use Rattle.cmdline.specs.Text.{Text}
 use Rattle.cmdline.specs.Insertion.{answerOf, insert, insertStr, insertInitArgs, insertMultiple}
 use Rattle.cmdline.specs.Device.{addDevice}
 use Rattle.cmdline.specs.Making.{new, tryFrom}
-use Rattle.cmdline.specs.Writing.{whole, bare, writeTests, writeGate, writtenOf, Writes}
+use Rattle.cmdline.specs.Writing.{bare, writeTests, writeGate, writtenOf, Writes}
 use Rattle.cmdline.specs.Held.{textOf}
 use Rattle.cmdline.specs.Keeping.{Says}
 use Rattle.cmdline.specs.Answering.{AnswersBy, WritesBy}

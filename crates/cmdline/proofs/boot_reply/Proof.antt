@@ -1,3 +1,4 @@
+-- `boot_reply`: by cases, as the definition goes.
 use mathlib.Core.Path.{_∙_, ap, sym}
 use Rattle.cmdline.specs.declared.Answer.the-variants as answer
 use Rattle.cmdline.specs.InPlace.{bootReply}

@@ -5,7 +5,6 @@ use native.Mathlib.Omega.{arith}
 use lib.ListN.{length, take, replicate, length-set}
 use lib.Seq.{take-all}
 use Rattle.capi.proofs.LinesLaws.{blanked}
-use borrow.Author.Needs.{needs}
 use Rattle.capi.proofs.lines.blank.Statement.{statement}
 use Rattle.capi.proofs.lines.blank.Tie as tie
 

@@ -1,3 +1,4 @@
+-- `Cmdline::insert_multiple`: the boot buffer as the call in place left it.
 use mathlib.Core.Path.{_≡_}
 use lib.ListN.{length}
 use Rattle.cmdline.specs.Limit.{limit}

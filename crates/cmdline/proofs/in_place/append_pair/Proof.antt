@@ -1,3 +1,4 @@
+-- `in_place::append_pair`: by how the tests ended.
 use mathlib.Core.Path.{refl}
 use Rattle.cmdline.proofs.InPlaceLaws.{appends-open}
 use borrow.Author.Needs.{needs}

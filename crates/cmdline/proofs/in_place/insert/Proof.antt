@@ -1,3 +1,4 @@
+-- `in_place::insert`: the key, the value and room are asked; the pair that the tests let by is trimmed and printable.
 use Prim.Native.Nat.{min}
 use mathlib.Core.List.{_++_, _∷_}
 use mathlib.Core.Path.{_∙_, ap, sym}

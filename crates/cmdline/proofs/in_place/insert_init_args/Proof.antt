@@ -1,3 +1,4 @@
+-- `in_place::insert_init_args`: the trimmed slug is asked, then appended to the init text.
 use Prim.Native.Nat.{min}
 use Rattle.cmdline.specs.Limit.{limit}
 use Rattle.cmdline.proofs.InPlaceLaws.{init-appends}

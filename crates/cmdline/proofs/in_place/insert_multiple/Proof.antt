@@ -1,3 +1,4 @@
+-- `in_place::insert_multiple`: the list, the key, the values and room are asked, then the slug is appended.
 use Prim.Native.Nat.{min}
 use mathlib.Core.List.{_++_, _∷_, List}
 use mathlib.Core.Path.{_∙_, sym}

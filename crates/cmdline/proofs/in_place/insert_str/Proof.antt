@@ -1,3 +1,4 @@
+-- `in_place::insert_str`: the trimmed slug is asked, then appended.
 use Prim.Native.Nat.{min}
 use Rattle.cmdline.specs.Limit.{limit}
 use Rattle.cmdline.proofs.InPlaceLaws.{str-appends}
