@@ -12,10 +12,11 @@
 ghost use mathlib.Core.Path.{_≡_};
 ghost use Rattle.fields.specs.Rounding.{roundedUp};
 
-// The least multiple of 4 that is not below n, by the mask of the original.
+// The least multiple of 4 that is not below n, by the remainder.
 pub fn align_up(n: u32) -> u64
     ensures { λ r. ⌜ r ≡ roundedUp n ⌝ }
 {
     let size = n as u64;
-    if size & 3 == 0 { size } else { (size | 3) + 1 }
+    let over = size % 4;
+    if over == 0 { size } else { size + (4 - over) }
 }
