@@ -202,9 +202,7 @@ static inline const char *rekusoyen_answer_sentence(uint32_t answer)
  * and of one with notes, where no offset is given: READ_NOTE_HEADER, OVERFLOW and INVALID_PVH_NOTE as of rekusoyen_elf_note.
  *
  * Leaves, accepted: in guest the bytes of every segment that is loaded, a later one over an earlier; in out the four values.
- * Leaves, refused: out as it was. A refusal above the program headers leaves guest as it was. One of a program header leaves in
- * guest the bytes of the segments before that header and nothing of the headers after it; its own segment is written too where
- * the refusal is MEMORY_OVERFLOW, and no byte of it where it is another.
+ * Leaves, refused: out and guest as they were. Nothing is written before every program header has passed.
  */
 uint32_t rekusoyen_elf_load(
     uint8_t *guest, size_t guest_len,

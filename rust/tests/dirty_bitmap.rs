@@ -1,4 +1,4 @@
-//! The bitmap of guest memory is marked exactly where an accepted call wrote, and by a refused one at least there.
+//! The bitmap of guest memory is marked exactly where an accepted call wrote, and by a refused one nowhere.
 
 mod images;
 
@@ -75,38 +75,30 @@ fn an_accepted_elf_load_marks_its_segments() {
 }
 
 #[test]
-fn a_refused_elf_load_marks_every_loadable_segment() {
-    let all: &[(u64, u64)] = &[(A, 3), (C, 1)];
-    let no_room = elf::Error::ReadKernelImage;
-    // what passes the end of guest memory, or 2^64, is marked as far as there is memory
-    let cut = &[&[(ROOM - 1, 1)], all].concat();
+fn a_refused_elf_load_marks_nothing() {
+    // each is refused after a good segment, and before another
     let over_the_end = one()
         .with(LOADABLE, ROOM - 1, b"de")
         .with(LOADABLE, C, b"f");
-    elf(over_the_end, None, Err(no_room.into()), cut);
+    let no_room = elf::Error::ReadKernelImage;
+    elf(over_the_end, None, Err(no_room.into()), &[]);
     let too_far = one()
         .with(LOADABLE, u64::MAX, b"de")
         .with(LOADABLE, C - 1, b"f");
     let error = elf::Error::InvalidProgramHeaderAddress;
-    elf(too_far, Some(1), Err(error.into()), &[(A + 1, 3), (C, 1)]);
-    // a segment refused for its end is itself written
+    elf(too_far, Some(1), Err(error.into()), &[]);
     let no_end = one()
         .with(LOADABLE, B, b"de")
         .edited(|header| header.p_memsz = u64::MAX)
         .with(LOADABLE, C, b"f");
-    let error = loader::Error::MemoryOverflow;
-    elf(no_end, None, Err(error), &[(A, 3), (B, 2), (C, 1)]);
+    elf(no_end, None, Err(loader::Error::MemoryOverflow), &[]);
     let bad_note = one()
         .with(NOTE, 0, &note_header(u32::MAX, 0, 0))
         .with(LOADABLE, C, b"f");
-    elf(
-        bad_note.clone(),
-        None,
-        Err(elf::Error::Overflow.into()),
-        all,
-    );
+    let error = elf::Error::Overflow;
+    elf(bad_note.clone(), None, Err(error.into()), &[]);
     // with an offset the note is not walked
-    elf(bad_note, Some(0), Ok(C + 1), all);
+    elf(bad_note, Some(0), Ok(C + 1), &[(A, 3), (C, 1)]);
 }
 
 #[test]

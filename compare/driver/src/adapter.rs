@@ -1,16 +1,18 @@
 //! Asks a program that has the second program's functions. It stands over the second program itself and over the copy with planted
 //! mistakes: the module above names which as `program`.
 
-use super::program::{bzimage, elf, line::Line, loading, note, Refusal};
+use super::program::{bzimage, elf, line::Line, loading, note, Refusal, Rules};
 use crate::answer::{Answer, BzimageLoaded, CallAnswer, ElfLoaded, NoteWalked, Pvh};
 use crate::question::{Call, Load, Question, Walk};
 
 /// What an untouched byte of a lent output holds.
 const UNTOUCHED: u8 = 0xe7;
 
-pub fn answer(question: &Question) -> Answer {
+/// The answer by a set of rules, which is the same set in the copy with planted mistakes.
+pub fn answer_by(question: &Question, rules: second::Rules) -> Answer {
+    let switched_on = rules.switched_on;
     match question {
-        Question::Elf(load) => answer_elf(load),
+        Question::Elf(load) => answer_elf(load, Rules { switched_on }),
         Question::Note(walk) => Answer::Note(answer_note(walk)),
         Question::Bzimage(load) => answer_bzimage(load),
         Question::Line(calls) => Answer::Line(answer_calls(calls).0),
@@ -28,10 +30,10 @@ pub fn answer(question: &Question) -> Answer {
     }
 }
 
-fn answer_elf(load: &Load) -> Answer {
+fn answer_elf(load: &Load, rules: Rules) -> Answer {
     let mut guest = load.guest.clone();
-    let options = load.options;
-    let outcome = elf::load(&load.image, &mut guest, options.offset, options.highmem);
+    let (offset, highmem) = (load.options.offset, load.options.highmem);
+    let outcome = elf::load(rules, &load.image, &mut guest, offset, highmem);
     let outcome = outcome.map_err(Refusal::number).map(|loaded| ElfLoaded {
         load: loaded.load,
         end: loaded.end,

@@ -3,6 +3,7 @@
 use crate::answer::Answer;
 use crate::compare;
 use crate::question::Question;
+use second::Rules;
 
 /// What came back for one question.
 #[derive(Clone, Debug)]
@@ -17,6 +18,11 @@ pub enum Reply {
 
 pub trait Backend {
     fn name(&self) -> &str;
+
+    /// The rules that this backend is held to: those of the proved code, unless it says otherwise.
+    fn rules(&self) -> Rules {
+        Rules::landed()
+    }
 
     fn ask(&mut self, question: &Question) -> Reply;
 

@@ -1,6 +1,6 @@
 //! Cases at the edges of the rules, each with what is to be answered: more of them than the worked examples, and as easy to read.
 
-use crate::examples::{pvh_note, small_bzimage, small_elf};
+use crate::examples::{put, pvh_note, small_bzimage, small_elf};
 use crate::question::{Call, Load, Question, Walk};
 
 /// A question, and the answer to it in the short form of the test below.
@@ -10,6 +10,7 @@ pub type Case = (Question, &'static str);
 pub fn all() -> Vec<Case> {
     [
         elf(),
+        refused_later(),
         notes(),
         bzimage(),
         lines(),
@@ -58,6 +59,103 @@ fn elf() -> Vec<Case> {
         edited(96, 0, "elf ok 16 0 pvh ignored, nothing changed"),
         edited(96, 4, "elf refused 10, nothing changed"),
         edited(64, 2, "elf ok 16 0 pvh ignored, nothing changed"),
+    ]
+}
+
+/// A program header: its type, where its bytes stand behind the program headers, address, file size and memory size.
+type Header = (u32, u64, u64, u64, u64);
+
+const LOADABLE: u32 = 1;
+const NOTES: u32 = 4;
+
+/// The segment of the small image.
+const SMALL: Header = (LOADABLE, 0, 16, 3, 8);
+
+/// The small image with these program headers, and bytes behind its own three; 32 guest bytes.
+fn with_headers(headers: &[Header], offset: Option<u64>, more: &[u8]) -> Load {
+    let mut load = into_sevens(small_elf(), 32);
+    load.options.offset = offset;
+    let text = load.image.split_off(120);
+    load.image.truncate(64);
+    load.image[56] = headers.len() as u8;
+    let body = 64 + 56 * headers.len() as u64;
+    for (kind, place, address, file_size, memory_size) in headers {
+        let mut entry = [0; 56];
+        put(&mut entry, 0, &kind.to_le_bytes());
+        put(&mut entry, 8, &(body + place).to_le_bytes());
+        put(&mut entry, 24, &address.to_le_bytes());
+        put(&mut entry, 32, &file_size.to_le_bytes());
+        put(&mut entry, 40, &memory_size.to_le_bytes());
+        load.image.extend(entry);
+    }
+    load.image.extend(text);
+    load.image.extend(more);
+    load
+}
+
+/// A segment that is good, and then a program header that is refused: nothing is written.
+fn refused_later() -> Vec<Case> {
+    let case = |second: Header, offset, more: &[u8], told| {
+        let load = with_headers(&[SMALL, second, SMALL], offset, more);
+        (Question::Elf(load), told)
+    };
+    let skipped = [&[0xfd, 0xff, 0xff, 0xff][..], &[0; 8]].concat();
+    vec![
+        case(
+            (LOADABLE, 1, 30, 2, 2),
+            None,
+            &[],
+            "elf ok 16 32 pvh ignored, 16 to 31 changed",
+        ),
+        case(
+            (LOADABLE, 1, u64::MAX, 2, 2),
+            Some(1),
+            &[],
+            "elf refused 9, nothing changed",
+        ),
+        case(
+            (LOADABLE, 2, 24, 2, 2),
+            None,
+            &[],
+            "elf refused 10, nothing changed",
+        ),
+        case(
+            (LOADABLE, 1, 31, 2, 2),
+            None,
+            &[],
+            "elf refused 10, nothing changed",
+        ),
+        case(
+            (LOADABLE, 1, 24, 2, u64::MAX - 23),
+            None,
+            &[],
+            "elf refused 13, nothing changed",
+        ),
+        case(
+            (NOTES, 3, 0, 1, 0),
+            None,
+            &pvh_note()[..19],
+            "elf refused 11, nothing changed",
+        ),
+        case(
+            (NOTES, 3, 0, 1, 0),
+            None,
+            b"\x04\0\0\0\x03\0\0\0\x12\0\0\0Xen\0",
+            "elf refused 12, nothing changed",
+        ),
+        case(
+            (NOTES, 3, 0, 1, 0),
+            None,
+            &skipped,
+            "elf refused 6, nothing changed",
+        ),
+        // with an offset no note is read
+        case(
+            (NOTES, 3, 0, 1, 0),
+            Some(0),
+            &skipped,
+            "elf ok 16 24 pvh ignored, 16 to 18 changed",
+        ),
     ]
 }
 

@@ -72,7 +72,7 @@ pub fn main(in_process: InProcess) {
                 stop_at_difference: false,
                 show_progress: true,
             };
-            let outcome = run(&plan, over_second::answer, &backends);
+            let outcome = run(&plan, over_second::answer_by, &backends);
             report(&outcome, &backends)
         }
         "planted" => planted(words.seed, words.threads, published.as_ref()),

@@ -1,6 +1,7 @@
 //! The worked examples of the rules, as questions. They are good images to damage, too.
 
 use crate::question::{Call, LineLoad, Load, Options, Question, Walk};
+use std::ops::Range;
 
 pub fn put(image: &mut [u8], place: usize, bytes: &[u8]) {
     image[place..place + bytes.len()].copy_from_slice(bytes);
@@ -62,6 +63,34 @@ pub fn elf_with_notes() -> Load {
 /// A PVH note with the entry point 1 MiB.
 pub fn pvh_note() -> [u8; 20] {
     *b"\x04\0\0\0\x04\0\0\0\x12\0\0\0Xen\0\x00\x00\x10\x00"
+}
+
+/// The smallest loads that a departure from the published crate shows in: its name, what is loaded, what the rules say, and the load.
+pub fn departures() -> Vec<(&'static str, &'static str, &'static str, Load)> {
+    vec![(
+        "L13",
+        "a segment of 1 byte for address 1 with p_memsz 2^64 - 1, 2 guest bytes",
+        "refused 13, nothing written",
+        smallest(&[(64, 1), (88, 1), (96, 1)], &[104..112], 2),
+    )]
+}
+
+/// An ELF image of 120 bytes, header and one program header, all 0 but for what a load asks of the header and these bytes: places with
+/// a value each, and runs of FF hex.
+fn smallest(bytes: &[(usize, u8)], ff: &[Range<usize>], guest_length: usize) -> Load {
+    let mut image = vec![0; 120];
+    put(&mut image, 0, b"\x7fELF");
+    for (place, byte) in [(5, 1), (32, 64), (54, 56), (56, 1)].iter().chain(bytes) {
+        image[*place] = *byte;
+    }
+    for run in ff {
+        image[run.clone()].fill(0xff);
+    }
+    Load {
+        options: Options::default(),
+        image,
+        guest: guest(guest_length),
+    }
 }
 
 /// A bzImage of one setup sector and a kernel of three bytes for address 4.

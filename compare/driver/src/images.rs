@@ -25,9 +25,10 @@ pub fn images(files: &[String], backends: &[&Maker]) -> Result<bool> {
         let name = Path::new(file).file_name().unwrap_or_default();
         println!("{}", name.to_string_lossy());
         for question in questions(&image) {
-            let wanted = over_second::answer(&question);
-            println!("  second: {}", wanted.line(question.guest()));
+            let told = over_second::answer(&question).line(question.guest());
+            println!("  second: {told}");
             for backend in &mut asked {
+                let wanted = over_second::answer_by(&question, backend.rules());
                 let reply = backend.ask(&question);
                 let agrees = backend.agrees(&question, &wanted, &reply);
                 all_agree &= agrees;

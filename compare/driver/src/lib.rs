@@ -7,6 +7,7 @@ mod cases;
 pub mod cli;
 pub mod compare;
 mod decode;
+mod departures;
 pub mod domain;
 mod encode;
 pub mod examples;
@@ -25,3 +26,5 @@ mod sample;
 mod show;
 mod shrink;
 mod stand_in;
+
+pub use second::Rules;

@@ -4,16 +4,21 @@ use crate::backend::Maker;
 use crate::over_planted;
 use crate::over_second::Second;
 use crate::run::{run, Plan, EXHAUSTIVE_PARTS};
+use second::Rules;
 
 /// Enough random questions for a rare path, after all the exhaustive ones.
 const RANDOM: [u64; 5] = [160_000, 80_000, 80_000, 80_000, 40_000];
 
 /// Prints for each mistake who noticed it, then the score; answers whether the unedited program noticed them all.
 pub fn planted(seed: u64, threads: usize, published: Option<&Maker>) -> bool {
-    let second: Maker = Box::new(|| Box::new(Second));
-    let judges: Vec<(&str, &Maker)> = [("second", &second)]
+    // the unedited program judges by both rules: a mistake in a departure shows by the one, and one in what it replaced by the other
+    let by = |rules| -> Maker { Box::new(move || Box::new(Second { rules })) };
+    let second = [Rules::landed(), Rules::PUBLISHED].map(by);
+    let second: Vec<&Maker> = second.iter().collect();
+    let published = published.map(|published| ("crate", vec![published]));
+    let judges: Vec<(&str, Vec<&Maker>)> = [("second", second.clone())]
         .into_iter()
-        .chain(published.map(|published| ("crate", published)))
+        .chain(published)
         .collect();
     let mut plan = Plan {
         seed,
@@ -27,7 +32,7 @@ pub fn planted(seed: u64, threads: usize, published: Option<&Maker>) -> bool {
     std::panic::set_hook(Box::new(|_| {}));
     // with no mistake switched on the copy is the program itself
     planted::switch_on(usize::MAX);
-    let control = run(&plan, over_planted::answer, &[&second]);
+    let control = run(&plan, over_planted::answer_by, &second);
     println!("no mistake: {} differences", control.difference_count);
     plan.random = RANDOM;
 
@@ -36,7 +41,7 @@ pub fn planted(seed: u64, threads: usize, published: Option<&Maker>) -> bool {
         planted::switch_on(index);
         let mut words = Vec::new();
         for ((name, judge), score) in judges.iter().zip(&mut scores) {
-            let outcome = run(&plan, over_planted::answer, &[judge]);
+            let outcome = run(&plan, over_planted::answer_by, judge);
             let noticed = outcome.difference_count > 0;
             *score += usize::from(noticed);
             let cases: u64 = outcome.cases.iter().sum();

@@ -1,6 +1,7 @@
 //! What a run says at its end.
 
 use crate::backend::{Backend, Maker, Reply};
+use crate::departures;
 use crate::over_second;
 use crate::question::{Area, Question};
 use crate::run::{Difference, Outcome};
@@ -37,12 +38,13 @@ pub fn report(outcome: &Outcome, backends: &[&Maker]) -> bool {
 
 /// The smallest question that still differs, and both answers.
 fn difference_text(question: Question, backend: &mut dyn Backend) -> String {
+    let rules = backend.rules();
     let smallest = shrink(question, |question| {
-        let wanted = over_second::answer(question);
+        let wanted = over_second::answer_by(question, rules);
         let reply = backend.ask(question);
         !backend.agrees(question, &wanted, &reply)
     });
-    let wanted = over_second::answer(&smallest).line(smallest.guest());
+    let wanted = over_second::answer_by(&smallest, rules).line(smallest.guest());
     let answered = line_of(&smallest, &backend.ask(&smallest));
     let name = backend.name();
     let question = show(&smallest);
@@ -63,8 +65,12 @@ fn last_line(outcome: &Outcome, asked: &[Box<dyn Backend>]) -> String {
     for (backend, compared) in asked.iter().zip(&outcome.compared) {
         line += &format!("; {} compared on {}", backend.name(), counts(compared));
     }
+    let departures = departures::counts(&outcome.departures);
     let differences = outcome.difference_count;
-    line + &format!("; {}; differences: {differences}", reached(outcome))
+    line + &format!(
+        "; {}; departures: {departures}; unexplained: {differences}",
+        reached(outcome)
+    )
 }
 
 fn counts(counts: &[u64; 5]) -> String {

@@ -1,7 +1,7 @@
 //! One comparison: many questions, asked of everyone, in parts that threads share out.
 
-use crate::answer::Answer;
 use crate::backend::{Backend, Maker, Reply};
+use crate::departures::{Answers, Counts, Wanted};
 use crate::generate;
 use crate::question::{Area, Question};
 use crate::rng::Rng;
@@ -14,6 +14,8 @@ use std::time::{Duration, Instant};
 /// does not depend on how many threads there are.
 const BATCH: usize = 64;
 const PART: u64 = 8192;
+/// One in so many random ELF loads is about the rules that depart from the published crate's.
+const DEPARTING: u64 = 4;
 /// The exhaustive questions of an area are dealt out to this many parts.
 pub const EXHAUSTIVE_PARTS: usize = 16;
 
@@ -43,6 +45,8 @@ pub struct Outcome {
     pub numbers: BTreeMap<u8, u64>,
     /// How many questions of each area each backend was compared on; the others lay outside its domain.
     pub compared: Vec<[u64; 5]>,
+    /// How many questions the proved code must answer otherwise than the published crate, by the departures that explain it.
+    pub departures: Counts,
     pub difference_count: u64,
     /// The first few of each part, in the order of the parts.
     pub differences: Vec<Difference>,
@@ -56,8 +60,8 @@ enum Source {
 
 type Part = (Area, Source);
 
-/// Asks the questions of the plan; `wanted` gives the answer that every backend is held to.
-pub fn run(plan: &Plan, wanted: fn(&Question) -> Answer, backends: &[&Maker]) -> Outcome {
+/// Asks the questions of the plan; `wanted` gives the answer that a backend is held to by its rules.
+pub fn run(plan: &Plan, wanted: Wanted, backends: &[&Maker]) -> Outcome {
     let parts = parts(plan);
     let next = AtomicUsize::new(0);
     let stop = AtomicBool::new(false);
@@ -112,7 +116,7 @@ fn parts(plan: &Plan) -> Vec<Part> {
 fn run_part(
     plan: &Plan,
     (area, source): Part,
-    wanted: fn(&Question) -> Answer,
+    wanted: Wanted,
     backends: &mut [Box<dyn Backend>],
 ) -> Outcome {
     let mut outcome = Outcome {
@@ -125,10 +129,18 @@ fn run_part(
         if questions.is_empty() {
             return outcome;
         }
-        let answers: Vec<Answer> = questions.iter().map(wanted).collect();
+        let answers = questions
+            .iter()
+            .map(|question| Answers::to(question, wanted));
+        let answers: Vec<Answers> = answers.collect();
         outcome.cases[area as usize] += questions.len() as u64;
-        for number in answers.iter().flat_map(Answer::numbers) {
-            *outcome.numbers.entry(number).or_default() += 1;
+        for (question, answers) in questions.iter().zip(&answers) {
+            for number in answers.landed.numbers() {
+                *outcome.numbers.entry(number).or_default() += 1;
+            }
+            if let Some(names) = answers.explained(question, wanted) {
+                *outcome.departures.entry(names).or_default() += 1;
+            }
         }
         for (index, backend) in backends.iter_mut().enumerate() {
             outcome.compare(&questions, &answers, index, backend.as_mut());
@@ -147,7 +159,10 @@ fn batches(seed: u64, area: Area, source: Source) -> Box<dyn Iterator<Item = Que
         }
         Source::Random { part, count } => {
             let mut rng = Rng::for_part(seed, area as u64, part);
-            Box::new((0..count).map(move |_| generate::random(area, &mut rng)))
+            Box::new((0..count).map(move |index| match area {
+                Area::Elf if index % DEPARTING == 0 => generate::departing(&mut rng),
+                _ => generate::random(area, &mut rng),
+            }))
         }
     }
 }
@@ -159,12 +174,13 @@ impl Outcome {
     fn compare(
         &mut self,
         questions: &[Question],
-        answers: &[Answer],
+        answers: &[Answers],
         index: usize,
         backend: &mut dyn Backend,
     ) {
         let replies = backend.ask_all(questions);
-        for ((question, answer), reply) in questions.iter().zip(answers).zip(&replies) {
+        for ((question, answers), reply) in questions.iter().zip(answers).zip(&replies) {
+            let answer = answers.by(backend.rules());
             if !matches!(reply, Reply::Outside) {
                 self.compared[index][question.area() as usize] += 1;
             }
@@ -188,6 +204,9 @@ impl Outcome {
         self.compared.resize(other.compared.len(), [0; 5]);
         for (sum, compared) in self.compared.iter_mut().zip(&other.compared) {
             add_counts(sum, compared);
+        }
+        for (names, count) in other.departures {
+            *self.departures.entry(names).or_default() += count;
         }
         self.difference_count += other.difference_count;
         self.differences.extend(other.differences);
@@ -253,6 +272,7 @@ impl Progress {
 mod tests {
     use super::*;
     use crate::over_second::{self, Second};
+    use second::Rules;
 
     fn outcome(seed: u64, threads: usize) -> Outcome {
         let plan = Plan {
@@ -263,8 +283,9 @@ mod tests {
             stop_at_difference: false,
             show_progress: false,
         };
-        let maker: Maker = Box::new(|| Box::new(Second));
-        run(&plan, over_second::answer, &[&maker])
+        let rules = Rules::landed();
+        let maker: Maker = Box::new(move || Box::new(Second { rules }));
+        run(&plan, over_second::answer_by, &[&maker])
     }
 
     #[test]

@@ -4,6 +4,7 @@ use crate::answer::Answer;
 use crate::backend::{Maker, Reply};
 use crate::cases;
 use crate::compare;
+use crate::departures::Answers;
 use crate::encode::framed;
 use crate::examples;
 use crate::generate;
@@ -11,6 +12,7 @@ use crate::malformed;
 use crate::over_second;
 use crate::question::{Area, Load, Question};
 use crate::rng::Rng;
+use std::collections::BTreeMap;
 use std::fs;
 use std::io::Result;
 use std::path::Path;
@@ -39,12 +41,15 @@ struct Sources {
     completed: usize,
     /// The second program, for the question lies outside the crate's domain: the lines of these answers.
     second: Vec<usize>,
+    /// The second program, for its rules depart from the crate's: the lines of these answers, by the departures.
+    departed: BTreeMap<String, Vec<usize>>,
 }
 
 impl Sources {
     /// The line that is answered next, counted from 1.
     fn next_line(&self) -> usize {
-        self.published + self.completed + self.second.len() + 1
+        let departed: usize = self.departed.values().map(Vec::len).sum();
+        self.published + self.completed + self.second.len() + departed + 1
     }
 }
 
@@ -80,16 +85,33 @@ pub fn write(folder: &Path, published: Option<&Maker>) -> Result<()> {
         sources.second.len(),
         malformed::all().len()
     );
-    let alone: Vec<String> = sources.second.iter().map(usize::to_string).collect();
-    println!("the second program alone: lines {}", alone.join(" "));
+    println!("the second program alone: {}", in_words(&sources.second));
+    for (names, of_departure) in &sources.departed {
+        println!(
+            "the second program, for {names}: {}",
+            in_words(of_departure)
+        );
+    }
     Ok(())
 }
 
-/// The crate's answer as far as its domain goes.
+/// How many lines there are, and which.
+fn in_words(lines: &[usize]) -> String {
+    let numbers: Vec<String> = lines.iter().map(usize::to_string).collect();
+    format!("{} lines, {}", lines.len(), numbers.join(" "))
+}
+
+/// The crate's answer as far as its domain goes, and as the rules do not depart from it.
 fn answer(question: &Question, reply: &Reply, sources: &mut Sources) -> Answer {
-    let second = over_second::answer(question);
+    let answers = Answers::to(question, over_second::answer_by);
+    let line = sources.next_line();
+    if let Some(names) = answers.explained(question, over_second::answer_by) {
+        sources.departed.entry(names).or_default().push(line);
+        return answers.landed;
+    }
+    let second = answers.landed;
     let Reply::Answer(answer) = reply else {
-        sources.second.push(sources.next_line());
+        sources.second.push(line);
         return second;
     };
     let whole = compare::completed(question, answer, &second);
@@ -122,6 +144,8 @@ fn questions_of_sample() -> Vec<Question> {
         }
     }
     questions.extend(cases::all().into_iter().map(|(question, _)| question));
+    let smallest = examples::departures().into_iter();
+    questions.extend(smallest.map(|(.., load)| Question::Elf(load)));
     questions
 }
 

@@ -26,7 +26,7 @@ fn a_program_that_answers_right_has_no_difference() {
     let counts = "elf 300, note 300, bzimage 30, line 300, load 300";
     let wanted = format!("cases: {counts}; probe compared on {counts}; numbers reached:");
     assert!(last.starts_with(&wanted), "{last}");
-    assert!(last.ends_with("differences: 0"), "{last}");
+    assert!(last.ends_with("unexplained: 0"), "{last}");
 }
 
 #[test]
@@ -35,7 +35,7 @@ fn a_program_that_says_nothing_differs_everywhere() {
     let said = String::from_utf8(output.stdout).unwrap();
     assert_eq!(output.status.code(), Some(1));
     assert!(said.contains("probe: (the program has ended)"), "{said}");
-    assert!(said.ends_with("differences: 1230\n"), "{said}");
+    assert!(said.ends_with("unexplained: 1230\n"), "{said}");
 }
 
 #[test]

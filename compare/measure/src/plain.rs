@@ -37,6 +37,8 @@ pub fn load_elf(
         count => part(image, table, 56 * u64::from(count)).ok_or(Refusal::ReadProgramHeader)?,
     };
     let mut end = 0;
+    // nothing is written before every header has passed
+    let mut copies = Vec::new();
     for header in headers.chunks_exact(56) {
         let size = u64_at(header, 32);
         if u32_at(header, 0) != 1 || size == 0 {
@@ -45,10 +47,13 @@ pub fn load_elf(
         let address = shift.checked_add(u64_at(header, 24));
         let address = address.ok_or(Refusal::InvalidProgramHeaderAddress)?;
         let from = part(image, u64_at(header, 8), size).ok_or(Refusal::ReadKernelImage)?;
-        let to = part_mut(guest, address, size).ok_or(Refusal::ReadKernelImage)?;
-        to.copy_from_slice(from);
+        part_mut(guest, address, size).ok_or(Refusal::ReadKernelImage)?;
         let segment_end = address.checked_add(u64_at(header, 40));
         end = end.max(segment_end.ok_or(Refusal::MemoryOverflow)?);
+        copies.push((address as usize, from));
+    }
+    for (address, from) in copies {
+        guest[address..address + from.len()].copy_from_slice(from);
     }
     Ok(KernelLoaderResult {
         kernel_load: GuestAddress(load),

@@ -1,4 +1,5 @@
-//! What the published crate does outside the domain in which the rules promise to equal it: one line for each smallest input.
+//! What the published crate does where the rules depart from it, and outside the domain in which they promise to equal it: one line for
+//! each smallest input.
 
 use crate::guest::content;
 use crate::numbers;
@@ -15,6 +16,7 @@ use vm_memory::{Address, Bytes, GuestAddress, GuestMemoryMmap, ReadVolatile};
 pub fn show_all() {
     // a panic is one of the outcomes shown
     std::panic::set_hook(Box::new(|_| {}));
+    departures();
     failed_copies();
     empty_kernels();
     empty_guests();
@@ -36,6 +38,13 @@ fn with_image(mut load: Load, change: impl Fn(&mut Vec<u8>)) -> Load {
 fn with_guest(mut load: Load, length: usize) -> Load {
     load.guest = examples::guest(length);
     load
+}
+
+/// By request: where the crate does something else by intent.
+fn departures() {
+    for (name, what, rules, load) in examples::departures() {
+        say(&format!("{name}: ELF, {what}"), rules, loaded::<Elf>(&load));
+    }
 }
 
 fn failed_copies() {

@@ -9,6 +9,7 @@ use driver::compare;
 use driver::domain::{self, WALK_FRONT};
 use driver::examples::put;
 use driver::question::{LineLoad, Load, Options, Question, Walk};
+use driver::Rules;
 use linux_loader::loader::elf::PvhBootCapability;
 use linux_loader::loader::{load_cmdline, BzImage, Elf, KernelLoader, KernelLoaderResult};
 use std::io::Cursor;
@@ -23,6 +24,10 @@ pub struct Published {
 impl Backend for Published {
     fn name(&self) -> &str {
         "crate"
+    }
+
+    fn rules(&self) -> Rules {
+        Rules::PUBLISHED
     }
 
     fn ask(&mut self, question: &Question) -> Reply {
@@ -134,7 +139,7 @@ mod tests {
     fn the_crate_answers_the_worked_examples_as_the_second_program_does() {
         let mut published = Published::default();
         for question in examples::all() {
-            let wanted = over_second::answer(&question);
+            let wanted = over_second::answer_by(&question, published.rules());
             let reply = published.ask(&question);
             assert!(matches!(reply, Reply::Answer(_)));
             assert!(published.agrees(&question, &wanted, &reply), "{reply:?}");

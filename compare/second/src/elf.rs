@@ -2,7 +2,7 @@
 
 use crate::fields::{range, u16_at, u32_at, u64_at, within_limit, ADDRESS_LIMIT};
 use crate::note::{self, Pvh};
-use crate::Refusal;
+use crate::{Departure, Refusal, Rules};
 
 const MAGIC: [u8; 4] = [0x7f, 0x45, 0x4c, 0x46];
 const LITTLE_ENDIAN: u8 = 1;
@@ -35,8 +35,24 @@ struct ProgramHeader {
     memory_size: u64,
 }
 
-/// Loads `image` into `guest`. A refusal leaves the segments before the refused header written.
+/// Loads `image` into `guest`. By the published rules a refusal leaves the segments before the refused header written.
 pub fn load(
+    rules: Rules,
+    image: &[u8],
+    guest: &mut [u8],
+    offset: Option<u64>,
+    highmem: Option<u64>,
+) -> Result<Loaded, Refusal> {
+    let mut memory = guest.to_vec();
+    let outcome = load_into(image, &mut memory, offset, highmem);
+    if outcome.is_ok() || !rules.has(Departure::L13) {
+        guest.copy_from_slice(&memory);
+    }
+    outcome
+}
+
+/// Takes the headers in turn, and writes each segment when it is met.
+fn load_into(
     image: &[u8],
     guest: &mut [u8],
     offset: Option<u64>,
@@ -150,6 +166,8 @@ fn moved(address: u64, by: Option<u64>) -> Option<u64> {
 mod tests {
     use super::*;
 
+    const PUBLISHED: Rules = Rules::PUBLISHED;
+
     fn put(image: &mut [u8], place: usize, bytes: &[u8]) {
         image[place..place + bytes.len()].copy_from_slice(bytes);
     }
@@ -179,7 +197,7 @@ mod tests {
     #[test]
     fn the_segment_is_copied_and_nothing_else_touched() {
         let mut guest = [0x55; 32];
-        let answer = load(&small(), &mut guest, None, None);
+        let answer = load(PUBLISHED, &small(), &mut guest, None, None);
         assert_eq!(answer, loaded(16, 24, Pvh::Ignored));
         let mut wanted = [0x55; 32];
         wanted[16..19].copy_from_slice(&[0xaa, 0xbb, 0xcc]);
@@ -189,7 +207,7 @@ mod tests {
     #[test]
     fn an_offset_moves_load_address_end_and_bytes() {
         let mut guest = [0; 32];
-        let answer = load(&small(), &mut guest, Some(4), None);
+        let answer = load(PUBLISHED, &small(), &mut guest, Some(4), None);
         assert_eq!(answer, loaded(20, 28, Pvh::Ignored));
         assert_eq!(guest[20..23], [0xaa, 0xbb, 0xcc]);
     }
@@ -197,12 +215,12 @@ mod tests {
     #[test]
     fn only_the_bytes_of_the_file_must_fit_the_guest() {
         assert_eq!(
-            load(&small(), &mut [0; 19], None, None),
+            load(PUBLISHED, &small(), &mut [0; 19], None, None),
             loaded(16, 24, Pvh::Ignored)
         );
         let mut guest = [0x55; 18];
         assert_eq!(
-            load(&small(), &mut guest, None, None),
+            load(PUBLISHED, &small(), &mut guest, None, None),
             Err(Refusal::ReadKernelImage)
         );
         assert_eq!(guest, [0x55; 18]);
@@ -211,12 +229,18 @@ mod tests {
     #[test]
     fn highmem_is_compared_with_the_entry_before_the_offset() {
         let mut guest = [0; 64];
-        assert!(load(&small(), &mut guest, None, Some(16)).is_ok());
+        assert!(load(PUBLISHED, &small(), &mut guest, None, Some(16)).is_ok());
         let refused = Err(Refusal::InvalidEntryAddress);
-        assert_eq!(load(&small(), &mut guest, None, Some(17)), refused);
-        assert_eq!(load(&small(), &mut guest, Some(4), Some(17)), refused);
         assert_eq!(
-            load(&small(), &mut guest, Some(u64::MAX), Some(17)),
+            load(PUBLISHED, &small(), &mut guest, None, Some(17)),
+            refused
+        );
+        assert_eq!(
+            load(PUBLISHED, &small(), &mut guest, Some(4), Some(17)),
+            refused
+        );
+        assert_eq!(
+            load(PUBLISHED, &small(), &mut guest, Some(u64::MAX), Some(17)),
             refused
         );
     }
@@ -224,7 +248,8 @@ mod tests {
     #[test]
     fn header_tests_come_in_their_order() {
         let mut image = small();
-        let ask = |image: &[u8]| load(image, &mut [0; 32], Some(u64::MAX), None).unwrap_err();
+        let ask =
+            |image: &[u8]| load(PUBLISHED, image, &mut [0; 32], Some(u64::MAX), None).unwrap_err();
         assert_eq!(ask(&image), Refusal::Overflow);
         image[32] = 63;
         assert_eq!(ask(&image), Refusal::InvalidProgramHeaderOffset);
@@ -241,10 +266,10 @@ mod tests {
     fn the_table_must_stand_in_the_image_only_if_it_has_headers() {
         let mut image = small();
         image[33] = 0xff;
-        let answer = load(&image, &mut [0; 32], None, None);
+        let answer = load(PUBLISHED, &image, &mut [0; 32], None, None);
         assert_eq!(answer, Err(Refusal::ReadProgramHeader));
         image[56] = 0;
-        let answer = load(&image, &mut [0; 32], None, None);
+        let answer = load(PUBLISHED, &image, &mut [0; 32], None, None);
         assert_eq!(answer, loaded(16, 0, Pvh::Ignored));
     }
 
@@ -254,13 +279,13 @@ mod tests {
         put(&mut image, 104, &(u64::MAX - 15).to_le_bytes());
         let mut guest = [0; 32];
         assert_eq!(
-            load(&image, &mut guest, None, None),
+            load(PUBLISHED, &image, &mut guest, None, None),
             Err(Refusal::MemoryOverflow)
         );
         assert_eq!(guest[16..19], [0xaa, 0xbb, 0xcc]);
         put(&mut image, 104, &(u64::MAX - 16).to_le_bytes());
         assert_eq!(
-            load(&image, &mut guest, None, None),
+            load(PUBLISHED, &image, &mut guest, None, None),
             loaded(16, u64::MAX, Pvh::Ignored)
         );
     }
@@ -269,9 +294,9 @@ mod tests {
     fn an_address_that_leaves_64_bits_is_refused_before_the_copy() {
         let mut image = small();
         put(&mut image, 88, &u64::MAX.to_le_bytes());
-        let answer = load(&image, &mut [0; 32], Some(1), None);
+        let answer = load(PUBLISHED, &image, &mut [0; 32], Some(1), None);
         assert_eq!(answer, Err(Refusal::InvalidProgramHeaderAddress));
-        let answer = load(&image, &mut [0; 32], Some(0), None);
+        let answer = load(PUBLISHED, &image, &mut [0; 32], Some(0), None);
         assert_eq!(answer, Err(Refusal::ReadKernelImage));
     }
 
@@ -280,7 +305,7 @@ mod tests {
         let mut image = small();
         image[96] = 0;
         assert_eq!(
-            load(&image, &mut [0; 1], None, None),
+            load(PUBLISHED, &image, &mut [0; 1], None, None),
             loaded(16, 0, Pvh::Ignored)
         );
     }
@@ -299,17 +324,33 @@ mod tests {
         }
         image.extend(*b"\x04\0\0\0\x04\0\0\0\x12\0\0\0Xen\0\x00\x00\x10\x00");
         assert_eq!(
-            load(&image, &mut [], None, None),
+            load(PUBLISHED, &image, &mut [], None, None),
             loaded(16, 0, Pvh::NotPresent)
         );
         assert_eq!(
-            load(&image, &mut [], Some(0), None),
+            load(PUBLISHED, &image, &mut [], Some(0), None),
             loaded(16, 0, Pvh::Ignored)
         );
         image[56] = 1;
         assert_eq!(
-            load(&image, &mut [], None, None),
+            load(PUBLISHED, &image, &mut [], None, None),
             loaded(16, 0, Pvh::Present(0x10_0000))
         );
+    }
+
+    #[test]
+    fn all_or_nothing_leaves_the_guest_of_a_refused_load() {
+        let mut image = small();
+        put(&mut image, 104, &u64::MAX.to_le_bytes());
+        let rules = Rules::of(&[Departure::L13]);
+        let mut guest = [0x55; 32];
+        let refused = Err(Refusal::MemoryOverflow);
+        assert_eq!(load(rules, &image, &mut guest, None, None), refused);
+        assert_eq!(guest, [0x55; 32]);
+        assert_eq!(load(PUBLISHED, &image, &mut guest, None, None), refused);
+        assert_eq!(guest[16..19], [0xaa, 0xbb, 0xcc]);
+        let mut guest = [0x55; 32];
+        assert!(load(rules, &small(), &mut guest, None, None).is_ok());
+        assert_eq!(guest[16..19], [0xaa, 0xbb, 0xcc]);
     }
 }

@@ -12,7 +12,9 @@ pub mod line;
 pub mod loading;
 pub mod note;
 pub mod refusal;
+pub mod rules;
 pub mod separator;
 pub mod text;
 
 pub use refusal::Refusal;
+pub use rules::{Departure, Rules};

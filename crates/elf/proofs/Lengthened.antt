@@ -17,6 +17,7 @@ use Rattle.answers.specs.declared.Refusal.{Refusal}
 use Rattle.answers.specs.declared.Refusal.the-variants.{ReadElfHeader, ReadProgramHeader, ReadKernelImage, ReadNoteHeader}
 use Rattle.answers.proofs.KeepingLaws.{equal, pick-grows, pick-same, leb-grows, widens-append, widens-same}
 use Rattle.fields.proofs.NumbersLaws.{le-append}
+use Rattle.fields.proofs.RangesLaws.{within-sum}
 use Rattle.fields.proofs.TagsLaws.{tag-append}
 use Rattle.guest.specs.Addresses.{amountOf}
 use Rattle.guest.specs.Lent.{lentTests}
@@ -28,21 +29,22 @@ use Rattle.guest.proofs.LoadingLaws.{LiftPlan, behind-keeps}
 use Rattle.elf.specs.Header.{headerSize, programHeaderSize, magic, e-phoff, e-phnum, standWithin, lengthTests, fileTests, entryTests, standTests, fieldTests, tests}
 use Rattle.elf.specs.ProgramHeaders.{headerPlace, headerAt, headerOf, HeadersStand}
 use Rattle.elf.specs.Survey.{segmentStep, saidStep, noteStep, stepOf, advanced, blank, afterStep, surveyFrom, loadAddress, surveyOf}
-use Rattle.elf.specs.Pouring.{segmentStream, streamFrom, surveyPlan, planOf}
-use Rattle.elf.specs.Fits.{FitsIfAny}
+use Rattle.elf.specs.Pouring.{segmentStream, streamFrom, wholeStream, ifLoaded, surveyPlan, planOf}
+use Rattle.elf.specs.Verdict.{Accepted, is-accepted}
+use Rattle.elf.specs.Rules.{SegmentFits}
 use Rattle.elf.specs.Lengthening.{ForBytes, header, program-header, segment, note}
 use Rattle.elf.specs.declared.KernelLoaderResult.{KernelLoaderResult}
-use Rattle.elf.specs.declared.Answer.the-variants.{Refused}
+use Rattle.elf.specs.declared.Answer.{Answer}
+use Rattle.elf.specs.declared.Answer.the-variants.{Loaded, Refused}
 use Rattle.elf.specs.declared.NoteAnswer.{NoteAnswer}
 use Rattle.elf.specs.declared.program_headers.ProgramHeader.{ProgramHeader}
 use Rattle.elf.specs.declared.survey.Effect.{Effect}
 use Rattle.elf.specs.declared.survey.Step.{Step}
-use Rattle.elf.specs.declared.survey.Step.the-variants.{Pass, Stop, StopWritten}
-use Rattle.elf.specs.declared.survey.Surveyed.{Surveyed}
+use Rattle.elf.specs.declared.survey.Step.the-variants.{Pass, Stop}
 use Rattle.elf.proofs.HeaderLaws.{stand-grows, header-stands, headers-stand}
-use Rattle.elf.proofs.SurveyLaws.{written-stand}
+use Rattle.elf.proofs.Verdicts.{by-headers}
 use Rattle.elf.proofs.PouringLaws.{stream-none, stream-empty, stream-loads}
-use Rattle.elf.proofs.FitsLaws.{survey-fits}
+use Rattle.elf.proofs.FitsLaws.{accepted-stand, accepted-fit}
 use Rattle.elf.proofs.NotesLengthened.{LiftSaid, lift-said, longer, as-long, pick-image, entry-longer}
 
 -- ---- the kinds that may lift, from a program header up to the plan
@@ -51,8 +53,8 @@ module _ (Lifts : Refusal → Type 0) where
   data LiftStep : Step → Type 0 where
     lift-step : {r : Refusal} → Lifts r → LiftStep (Stop r)
 
-  abbrev LiftSurveyed : Surveyed → Type 0
-  LiftSurveyed surveyed = RefusedFor Refused Lifts (surveyed .answer)
+  abbrev LiftAnswer : Answer → Type 0
+  LiftAnswer = RefusedFor Refused Lifts
 
   -- what follows each of them
 
@@ -60,15 +62,14 @@ module _ (Lifts : Refusal → Type 0) where
   said-after same = same
   said-after (lifted (lift-said l)) = lifted (lift-step l)
 
-  step-after : (i : ℕ) {x x' : Step} {more more' : Effect → Surveyed} → Keeps LiftStep x x' → ((e : Effect) → Keeps LiftSurveyed (more e) (more' e))
-      → Keeps LiftSurveyed (afterStep x i more) (afterStep x' i more')
-  step-after i (lifted (lift-step {r} l)) rest = lifted (record { refusal = r; lifts = l; is = refl })
-  step-after i {x} {more = more} {more' = more'} same rest = at x
+  step-after : {x x' : Step} {more more' : Effect → Answer} → Keeps LiftStep x x' → ((e : Effect) → Keeps LiftAnswer (more e) (more' e))
+      → Keeps LiftAnswer (afterStep x more) (afterStep x' more')
+  step-after (lifted (lift-step {r} l)) rest = lifted (record { refusal = r; lifts = l; is = refl })
+  step-after {x} {more = more} {more' = more'} same rest = at x
     where
-      at : (x : Step) → Keeps LiftSurveyed (afterStep x i more) (afterStep x i more')
+      at : (x : Step) → Keeps LiftAnswer (afterStep x more) (afterStep x more')
       at (Pass e) = rest e
       at (Stop r) = same
-      at (StopWritten r) = same
 
 -- ---- an image and what is added to it
 
@@ -87,14 +88,14 @@ module _ (s t : List ℕ) where
 -- ---- what is written from the image, where it fits
 
 module _ (s t : List ℕ) (m : Memory) (shift : ℕ) where
-  segment-stream : (h : ProgramHeader) → FitsIfAny (length s) m shift h → segmentStream (s ++ t) shift h ≡ segmentStream s shift h
+  segment-stream : (h : ProgramHeader) → SegmentFits (length s) m shift h → segmentStream (s ++ t) shift h ≡ segmentStream s shift h
   segment-stream h fits = split (ℕ-discrete (h .«p_type») 1) (decLe 1 (h .«p_filesz»))
     where
       split : Dec (h .«p_type» ≡ 1) → Dec (1 ≤ h .«p_filesz») → segmentStream (s ++ t) shift h ≡ segmentStream s shift h
       split (no other) any = stream-none (s ++ t) shift h other ∙ sym (stream-none s shift h other)
       split (yes loads) (no empty) = stream-empty (s ++ t) shift h (omega arith) ∙ sym (stream-empty s shift h (omega arith))
       split (yes loads) (yes some) =
-          let in-image = fits loads some .in-image in
+          let in-image = within-sum (length s) (h .«p_offset» .0) (h .«p_filesz») (fits loads some .in-image) in
           let enough : h .«p_filesz» ≤ length (drop (h .«p_offset» .0) s) = simp length-drop (omega arith) in
           rw (
             stream-loads (s ++ t) shift h loads,
@@ -104,7 +105,7 @@ module _ (s t : List ℕ) (m : Memory) (shift : ℕ) where
           )
 
   stream-longer : (n i : ℕ) → ((j : ℕ) → j < i + n → headerPlace s j + 56 ≤ length s)
-      → ((j : ℕ) → i ≤ j → j < i + n → FitsIfAny (length s) m shift (headerOf s j))
+      → ((j : ℕ) → i ≤ j → j < i + n → SegmentFits (length s) m shift (headerOf s j))
       → streamFrom n (s ++ t) shift i ≡ streamFrom n s shift i
   unfolding streamFrom
   stream-longer zero i stand fits = refl
@@ -141,15 +142,15 @@ module _ (s t : List ℕ) (Lifts : Refusal → Type 0) (lifts : (r : Refusal) �
         (λ _. pick-same (LiftStep Lifts) _ _ refl (λ _. note-longer h) (λ _. same))
 
     survey-longer : (n i : ℕ) (result : KernelLoaderResult) → headerSize ≤ length s → HeadersStand s (i + n)
-        → Keeps (LiftSurveyed Lifts) (surveyFrom n s m offset i result) (surveyFrom n (s ++ t) m' offset i result)
+        → Keeps (LiftAnswer Lifts) (surveyFrom n s m offset i result) (surveyFrom n (s ++ t) m' offset i result)
     unfolding surveyFrom
     survey-longer zero i result long stand = same
     survey-longer (suc n) i result long stand =
         rw (le-append 8 s t 32 (omega arith), header-append s t (headerPlace s i) (stand .stands i (omega arith)))
-        (step-after Lifts i (step-longer (headerOf s i))
+        (step-after Lifts (step-longer (headerOf s i))
         (λ e. survey-longer n (suc i) (advanced result e) long (record { stands = λ j lt. stand .stands j (omega arith) })))
 
-    whole-longer : AllHold (tests s m offset highmem) → Keeps (LiftSurveyed Lifts) (surveyOf s m offset) (surveyOf (s ++ t) m' offset)
+    whole-longer : AllHold (tests s m offset highmem) → Keeps (LiftAnswer Lifts) (surveyOf s m offset) (surveyOf (s ++ t) m' offset)
     whole-longer hold =
         let long = header-stands s m offset highmem hold in
         rw (le-append 2 s t 56 (omega arith), le-append 8 s t 24 (omega arith))
@@ -157,15 +158,21 @@ module _ (s t : List ℕ) (Lifts : Refusal → Type 0) (lifts : (r : Refusal) �
         (subst⁻¹ (HeadersStand s) (zero-add (e-phnum s)) (headers-stand s m offset highmem hold)))
 
     -- what is written comes from the image as it was
-    survey-planned : AllHold (tests s m offset highmem) → {x : Surveyed} → Keeps (LiftSurveyed Lifts) (surveyOf s m offset) x
-        → Keeps (LiftPlan Refused Lifts) (surveyPlan s offset (surveyOf s m offset)) (surveyPlan (s ++ t) offset x)
+    stream-by : AllHold (tests s m offset highmem) → (a : Answer) → surveyOf s m offset ≡ a → ifLoaded a (wholeStream (s ++ t) offset) ≡ ifLoaded a (wholeStream s offset)
+    unfolding wholeStream
+    stream-by hold (Refused r) e = refl
+    stream-by hold (Loaded result) e =
+        let ok : Accepted (planOf s m offset highmem .answer) = subst⁻¹ Accepted (by-headers s m offset highmem hold ∙ e) is-accepted in
+        let long = header-stands s m offset highmem hold in
+        rw (le-append 2 s t 56 (omega arith))
+        (stream-longer s t m (amountOf offset) (e-phnum s) 0 (λ j lt. accepted-stand s m offset highmem ok .stands j (omega arith))
+        (λ j le lt. accepted-fit s m offset highmem ok j (omega arith)))
+
+    survey-planned : AllHold (tests s m offset highmem) → {a : Answer} → Keeps (LiftAnswer Lifts) (surveyOf s m offset) a
+        → Keeps (LiftPlan Refused Lifts) (surveyPlan s offset (surveyOf s m offset)) (surveyPlan (s ++ t) offset a)
     survey-planned hold (lifted l) = lifted l
     survey-planned hold same =
-        equal (LiftPlan Refused Lifts)
-        (ap (λ ps. record { answer = surveyOf s m offset .answer; stream = ps })
-        (stream-longer s t m (amountOf offset) (surveyOf s m offset .written) 0
-        (λ j lt. written-stand s m offset (headers-stand s m offset highmem hold) .stands j (omega arith))
-        (λ j le lt. survey-fits s m offset j (omega arith))))
+        equal (LiftPlan Refused Lifts) (ap (λ ps. record { answer = surveyOf s m offset; stream = ps }) (stream-by hold (surveyOf s m offset) refl))
 
     -- ---- the tests before them
 

@@ -2,10 +2,11 @@ pub mod HeaderLaws
 pub mod NotesLaws
 pub mod SurveyLaws
 pub mod PouringLaws
-pub mod FitsLaws
 pub mod Verdicts
-pub mod Refusals
+pub mod EveryRule
+pub mod FitsLaws
 pub mod ByteRules
+pub mod RefusedUntouched
 pub mod HeaderCount
 pub mod NoteVerdicts
 pub mod NotesLengthened

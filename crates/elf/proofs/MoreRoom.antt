@@ -1,7 +1,7 @@
 -- "More room or more data never turns one answer into another. Within the size limits, guest memory lengthened at its end, or an ELF
 -- image lengthened at its end, gives an accepted load the same results and old guest bytes, the added memory untouched; and any
 -- refusal not for missing image bytes or guest room stays as it was": guest-longer, image-longer, both-longer. They speak of whatever
--- the contract of `load` permits, refused loads' written bytes included.
+-- the contract of `load` permits.
 use Prim.Native.Nat.{ℕ, _≤_}
 use mathlib.Core.Path.{_≡_, _∙_, refl, ap, subst⁻¹}
 use mathlib.Core.List.{List, [], _++_, append-nil}

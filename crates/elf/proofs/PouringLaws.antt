@@ -2,31 +2,30 @@
 use Prim.Native.Nat.{ℕ, suc, _+_, _≤_}
 use mathlib.Core.Path.{_≡_, sym, _∙_, refl, ap}
 use mathlib.Core.List.{List, []}
-use native.Mathlib.Omega.{arith}
 use borrow.Author.Tests.{eq-eqb, ne-eqb}
 use lib.Dec.{eqb}
 use lib.ListN.{length}
 use Rattle.answers.specs.Pick.{pick}
 use Rattle.answers.specs.Tests.{askedAll}
 use Rattle.answers.specs.declared.Refusal.{Refusal}
+use Rattle.answers.specs.declared.Gate.{Gate}
 use Rattle.answers.specs.declared.Gate.the-variants.{Open, Shut}
 use Rattle.answers.proofs.PickLaws.{pick-with}
-use Rattle.answers.proofs.TestsLaws.{open-all}
 use Rattle.guest.specs.Addresses.{amountOf}
+use Rattle.guest.specs.Loading.{Plan, Loads}
 use Rattle.guest.specs.Stream.{Poke, pour, streamAt, bytesAt}
 use Rattle.guest.specs.declared.Given.{Given}
 use Rattle.guest.specs.declared.Memory.{Memory}
 use Rattle.guest.proofs.StreamLaws.{pour-append, pour-past}
-use Rattle.guest.proofs.LoadingLaws.{tests-open, tests-shut}
+use Rattle.guest.proofs.LoadingLaws.{tests-open, tests-shut, behind-with}
 use Rattle.elf.specs.Header.{e-entry, e-phnum, tests}
 use Rattle.elf.specs.ProgramHeaders.{headerOf}
 use Rattle.elf.specs.Survey.{blank, surveyFrom, surveyOf}
-use Rattle.elf.specs.Pouring.{segmentStream, streamFrom, surveyPlan, planOf, Planned}
-use Rattle.elf.specs.declared.Answer.the-variants.{Refused}
+use Rattle.elf.specs.Pouring.{segmentStream, streamFrom, wholeStream, ifLoaded, surveyPlan, planOf}
+use Rattle.elf.specs.declared.KernelLoaderResult.{KernelLoaderResult}
+use Rattle.elf.specs.declared.Answer.{Answer}
+use Rattle.elf.specs.declared.Answer.the-variants.{Loaded, Refused}
 use Rattle.elf.specs.declared.program_headers.ProgramHeader.{ProgramHeader}
-use Rattle.elf.specs.declared.survey.Surveyed.{Surveyed}
-use Rattle.elf.proofs.HeaderLaws.{headers-stand}
-use Rattle.elf.proofs.SurveyLaws.{written-stand}
 
 -- ---- one program header
 
@@ -72,20 +71,47 @@ module _ (image : List ℕ) (shift i : ℕ) (guest : List ℕ) where
   unfolding streamFrom pour
   stream-end em = rw em
 
--- ---- what code knows of a plan
+-- ---- what code does by the answer
 
 module _ (image : List ℕ) (m : Memory) (offset highmem : Given) where
-  pub planned-shut : {r : Refusal} → askedAll Open (tests image m offset highmem) ≡ Shut r
-      → Planned image offset (planOf image m offset highmem) (record { answer = Refused r; written = 0 })
-  unfolding streamFrom
-  planned-shut shut =
-      rw (tests-shut Refused (tests image m offset highmem) (surveyPlan image offset (surveyOf image m offset)) shut)
-      (record { answer = refl; stream = refl; stand = record { stands = λ i lt. absurd (omega arith) } })
+  abbrev plan : Plan Answer
+  plan = planOf image m offset highmem
 
-  pub planned-open : {r : Surveyed} {n entry amount : ℕ} → askedAll Open (tests image m offset highmem) ≡ Open
+  abbrev headers : Plan Answer
+  headers = surveyPlan image offset (surveyOf image m offset)
+
+  -- a plan writes all segments or nothing
+  pub plan-stream : plan .stream ≡ ifLoaded (plan .answer) (wholeStream image offset)
+  plan-stream =
+      behind-with Refused (tests image m offset highmem) headers (λ (p : Plan Answer). p .stream ≡ ifLoaded (p .answer) (wholeStream image offset)) (λ _. refl) (λ _ _. refl)
+
+  poured-by : {r told : Answer} {before after : List ℕ} → r ≡ plan .answer → r ≡ told → after ≡ pour (ifLoaded told (wholeStream image offset)) before → Loads plan before told after
+  poured-by {before = before} er et ea =
+      record {
+        answer = sym et ∙ er;
+        memory = ea ∙ ap (λ (a : Answer). pour (ifLoaded a (wholeStream image offset)) before) (sym et ∙ er) ∙ ap (λ ps. pour ps before) (sym plan-stream);
+      }
+
+  pub load-refused : {answer : Answer} {r : Refusal} (before : List ℕ) → answer ≡ plan .answer → answer ≡ Refused r → Loads plan before (Refused r) before
+  unfolding pour
+  load-refused before er et = poured-by er et refl
+
+  pub load-accepted : {answer : Answer} {result : KernelLoaderResult} {n shift : ℕ} {before after : List ℕ} → answer ≡ plan .answer → answer ≡ Loaded result
+      → n ≡ e-phnum image → shift ≡ amountOf offset → after ≡ pour (streamFrom n image shift 0) before → Loads plan before (Loaded result) after
+  unfolding wholeStream
+  load-accepted er et en es ea = poured-by er et (ea ∙ rw (en, es))
+
+-- ---- the answer, as code works it out
+
+module _ (image : List ℕ) (m : Memory) (offset highmem : Given) where
+  pub answer-shut : {gate : Gate} {r : Refusal} → gate ≡ askedAll Open (tests image m offset highmem) → gate ≡ Shut r → Refused r ≡ planOf image m offset highmem .answer
+  answer-shut asked is =
+      sym (ap (λ (p : Plan Answer). p .answer) (tests-shut Refused (tests image m offset highmem) (surveyPlan image offset (surveyOf image m offset)) (sym asked ∙ is)))
+
+  pub answer-open : {gate : Gate} {r : Answer} {n entry amount : ℕ} → gate ≡ askedAll Open (tests image m offset highmem) → gate ≡ Open
       → r ≡ surveyFrom n image m offset 0 (blank (record { 0 = amount + entry })) → n ≡ e-phnum image → entry ≡ e-entry image → amount ≡ amountOf offset
-      → Planned image offset (planOf image m offset highmem) r
-  planned-open opened er en ee ea =
-      let hold = open-all (tests image m offset highmem) opened in
-      rw (tests-open Refused (tests image m offset highmem) (surveyPlan image offset (surveyOf image m offset)) opened, er, en, ee, ea)
-      (record { answer = refl; stream = refl; stand = written-stand image m offset (headers-stand image m offset highmem hold) })
+      → r ≡ planOf image m offset highmem .answer
+  answer-open asked is er en ee ea =
+      er
+      ∙ rw (en, ee, ea)
+      (sym (ap (λ (p : Plan Answer). p .answer) (tests-open Refused (tests image m offset highmem) (surveyPlan image offset (surveyOf image m offset)) (sym asked ∙ is))))

@@ -3,9 +3,9 @@ pub mod ProgramHeaders
 pub mod Notes
 pub mod Survey
 pub mod Pouring
-pub mod Fits
 pub mod Load
 pub mod Verdict
+pub mod Rules
 pub mod NoteVerdict
 pub mod ByteRule
 pub mod Lengthening

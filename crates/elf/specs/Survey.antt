@@ -1,4 +1,4 @@
--- The survey of the program headers, one after the other: the answer, and of how many of them the segments are written.
+-- The survey of the program headers, one after the other, up to the first that refuses.
 use Prim.Native.Nat.{ℕ, zero, suc, _+_, max}
 use mathlib.Core.List.{List}
 use lib.Dec.{eqb}
@@ -16,6 +16,7 @@ use Rattle.elf.specs.ProgramHeaders.{headerOf}
 use Rattle.elf.specs.Notes.{entryOf}
 use Rattle.elf.specs.declared.PvhBootCapability.the-variants as pvh
 use Rattle.elf.specs.declared.KernelLoaderResult.{KernelLoaderResult}
+use Rattle.elf.specs.declared.Answer.{Answer}
 use Rattle.elf.specs.declared.Answer.the-variants.{Loaded, Refused}
 use Rattle.elf.specs.declared.NoteAnswer.{NoteAnswer}
 use Rattle.elf.specs.declared.NoteAnswer.the-variants as answer
@@ -23,8 +24,7 @@ use Rattle.elf.specs.declared.program_headers.ProgramHeader.{ProgramHead
 use Rattle.elf.specs.declared.survey.Effect.{Effect}
 use Rattle.elf.specs.declared.survey.Effect.the-variants as effect
 use Rattle.elf.specs.declared.survey.Step.{Step}
-use Rattle.elf.specs.declared.survey.Step.the-variants.{Pass, Stop, StopWritten}
-use Rattle.elf.specs.declared.survey.Surveyed.{Surveyed}
+use Rattle.elf.specs.declared.survey.Step.the-variants.{Pass, Stop}
 
 -- a loadable segment with file bytes, moved by shift: its address, its bytes in the image, their room in guest memory, its end
 unfoldable pub segmentStep : ℕ → Memory → ℕ → ProgramHeader → Step
@@ -33,7 +33,7 @@ segmentStep imageLength m shift h =
     pick (fits64 shift (h .«p_paddr» .0))
     (pick (liesWithin imageLength (h .«p_offset» .0) (h .«p_filesz»))
     (pick (room m at (h .«p_filesz»))
-    (pick (fits64 at (h .«p_memsz»)) (Pass (effect.EndsAt (record { 0 = at + h .«p_memsz» }))) (StopWritten refusal.MemoryOverflow))
+    (pick (fits64 at (h .«p_memsz»)) (Pass (effect.EndsAt (record { 0 = at + h .«p_memsz» }))) (Stop refusal.MemoryOverflow))
     (Stop refusal.ReadKernelImage))
     (Stop refusal.ReadKernelImage))
     (Stop refusal.InvalidProgramHeaderAddress)
@@ -68,22 +68,21 @@ advanced result (effect.Pvh said) = record { «kernel_load» = result .«kernel_
 abbrev pub blank : GuestAddress → KernelLoaderResult
 blank load = record { «kernel_load» = load; «kernel_end» = record { 0 = 0 }; «pvh_boot_cap» = pvh.PvhEntryIgnored }
 
--- after the step of program header i: `more` goes on
-abbrev pub afterStep : Step → ℕ → (Effect → Surveyed) → Surveyed
-afterStep (Pass e) i more = more e
-afterStep (Stop r) i more = record { answer = Refused r; written = i }
-afterStep (StopWritten r) i more = record { answer = Refused r; written = suc i }
+-- after the step of a program header: `more` goes on
+abbrev pub afterStep : Step → (Effect → Answer) → Answer
+afterStep (Pass e) more = more e
+afterStep (Stop r) more = Refused r
 
 -- n program headers from header i on
-unfoldable pub surveyFrom : ℕ → List ℕ → Memory → Given → ℕ → KernelLoaderResult → Surveyed
-surveyFrom zero image m offset i result = record { answer = Loaded result; written = i }
+unfoldable pub surveyFrom : ℕ → List ℕ → Memory → Given → ℕ → KernelLoaderResult → Answer
+surveyFrom zero image m offset i result = Loaded result
 surveyFrom (suc n) image m offset i result =
-    afterStep (stepOf image m offset (headerOf image i)) i (λ e. surveyFrom n image m offset (suc i) (advanced result e))
+    afterStep (stepOf image m offset (headerOf image i)) (λ e. surveyFrom n image m offset (suc i) (advanced result e))
 
 -- the load address: the entry point, plus the offset if given
 abbrev pub loadAddress : List ℕ → Given → GuestAddress
 loadAddress image offset = record { 0 = amountOf offset + e-entry image }
 
 -- all program headers
-abbrev pub surveyOf : List ℕ → Memory → Given → Surveyed
+abbrev pub surveyOf : List ℕ → Memory → Given → Answer
 surveyOf image m offset = surveyFrom (e-phnum image) image m offset 0 (blank (loadAddress image offset))

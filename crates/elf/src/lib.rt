@@ -8,12 +8,13 @@
 //
 // SPDX-License-Identifier: Apache-2.0 AND BSD-3-Clause
 
-// Loading an ELF kernel. A load is a plan, made of the image, the memory and the options alone, and a pouring: the segments of the
-// program headers that the plan lets through, in file order.
+// Loading an ELF kernel. A load is a plan, made of the image, the memory and the options alone, and a pouring: the segments of all program
+// headers, in file order, where every header has passed, and nothing where one has not.
 ghost use mathlib.Core.Path.{_≡_};
 ghost use Rattle.elf.specs.Load.{LoadSays};
 ghost use Rattle.elf.specs.Notes.{publicNote};
 use answers::Refusal;
+use fields::numbers;
 use guest::Given;
 use guest::GuestAddress;
 use guest::ImagePlace;
@@ -66,9 +67,15 @@ pub fn load(guest: &mut [u8], image: &[u8], kernel_offset: Given, highmem_start:
     let memory = Memory {
         size: guest.len() as u64,
     };
-    let plan = survey::plan_load(image, memory, kernel_offset, highmem_start);
-    pouring::pour_segments(guest, image, addresses::amount(kernel_offset), plan.written);
-    plan.answer
+    let answer = survey::answer_load(image, memory, kernel_offset, highmem_start);
+    match answer {
+        Answer::Refused(r) => Answer::Refused(r),
+        Answer::Loaded(result) => {
+            let e_phnum = numbers::read_u16(image, 56);
+            pouring::pour_segments(guest, image, addresses::amount(kernel_offset), e_phnum);
+            Answer::Loaded(result)
+        }
+    }
 }
 
 // The PVH entry that the notes of p_filesz bytes at p_offset give.

@@ -8,7 +8,7 @@
 //
 // SPDX-License-Identifier: Apache-2.0 AND BSD-3-Clause
 
-// The pouring: the segments of the program headers that the survey let through.
+// The pouring: the segments of the program headers, which the survey has let through.
 ghost use mathlib.Core.Path.{_≡_};
 ghost use Rattle.guest.specs.Stream.{pour};
 ghost use Rattle.elf.specs.ProgramHeaders.{HeadersStand};

@@ -8,12 +8,12 @@
 //
 // SPDX-License-Identifier: Apache-2.0 AND BSD-3-Clause
 
-// The survey: each program header in turn, up to the first that refuses.
+// The survey: each program header in turn, up to the first that refuses. Nothing is written before all have passed.
 ghost use mathlib.Core.Path.{_≡_};
 ghost use Prim.Native.Nat.{max};
 ghost use Rattle.elf.specs.ProgramHeaders.{HeadersStand};
 ghost use Rattle.elf.specs.Survey.{segmentStep, noteStep, stepOf, advanced, blank, surveyFrom};
-ghost use Rattle.elf.specs.Pouring.{planOf, Planned};
+ghost use Rattle.elf.specs.Pouring.{planOf};
 use crate::Answer;
 use crate::KernelLoaderResult;
 use crate::NoteAnswer;
@@ -39,17 +39,10 @@ pub enum Effect {
     Pvh(PvhBootCapability),
 }
 
-// What one program header says: go on, refuse, or refuse after its segment is written.
+// What one program header says: go on, or refuse.
 pub enum Step {
     Pass(Effect),
     Stop(Refusal),
-    StopWritten(Refusal),
-}
-
-// The answer, and of how many program headers the segments are written.
-pub struct Surveyed {
-    pub answer: Answer,
-    pub written: u64,
 }
 
 // A loadable segment with file bytes.
@@ -69,7 +62,7 @@ fn segment_step(image_len: u64, memory: Memory, shift: u64, h: ProgramHeader) ->
     }
     let p_memsz = h.p_memsz;
     if !ranges::sum_fits(at, p_memsz) {
-        return Step::StopWritten(Refusal::MemoryOverflow);
+        return Step::Stop(Refusal::MemoryOverflow);
     }
     Step::Pass(Effect::EndsAt(GuestAddress(at + p_memsz)))
 }
@@ -136,7 +129,7 @@ fn advance(result: KernelLoaderResult, effect: Effect) -> KernelLoaderResult
 }
 
 // The n program headers, which stand in the image.
-fn survey(image: &[u8], memory: Memory, offset: Given, load: GuestAddress, n: u64) -> Surveyed
+fn survey(image: &[u8], memory: Memory, offset: Given, load: GuestAddress, n: u64) -> Answer
     requires { ⌜ HeadersStand (now image) n ⌝ }
     ensures { λ r. ⌜ r ≡ surveyFrom n (now (image .entry)) memory offset 0 (blank load) ⌝ }
 {
@@ -154,36 +147,21 @@ fn survey(image: &[u8], memory: Memory, offset: Given, load: GuestAddress, n: u6
                 result = advance(result, effect);
             }
             Step::Stop(r) => {
-                return Surveyed {
-                    answer: Answer::Refused(r),
-                    written: i,
-                };
-            }
-            Step::StopWritten(r) => {
-                return Surveyed {
-                    answer: Answer::Refused(r),
-                    written: i + 1,
-                };
+                return Answer::Refused(r);
             }
         }
         i += 1;
     }
-    Surveyed {
-        answer: Answer::Loaded(result),
-        written: n,
-    }
+    Answer::Loaded(result)
 }
 
-// The plan of a load: what it answers, and of how many program headers it writes the segments.
-pub(crate) fn plan_load(image: &[u8], memory: Memory, offset: Given, highmem: Given) -> Surveyed
-    ensures { λ r. ⌜ Planned (now (image .entry)) offset (planOf (now (image .entry)) memory offset highmem) r ⌝ }
+// What a load answers.
+pub(crate) fn answer_load(image: &[u8], memory: Memory, offset: Given, highmem: Given) -> Answer
+    ensures { λ r. ⌜ r ≡ planOf (now (image .entry)) memory offset highmem .answer ⌝ }
 {
     let gate = header::validate_header(image, memory, offset, highmem);
     match gate {
-        Gate::Shut(r) => Surveyed {
-            answer: Answer::Refused(r),
-            written: 0,
-        },
+        Gate::Shut(r) => Answer::Refused(r),
         Gate::Open => {
             let load = addresses::amount(offset) + numbers::read_u64(image, 24);
             let e_phnum = numbers::read_u16(image, 56);

@@ -128,8 +128,7 @@ pub struct Elf;
 
 impl Elf {
     /// Loads an image into guest memory, which begins at guest address 0. Each segment goes to its address, moved by the offset
-    /// if one is given; with an offset the PVH entry is ignored. A refusal leaves written the segments before the one it is
-    /// about.
+    /// if one is given; with an offset the PVH entry is ignored. A refusal changes nothing.
     ///
     /// ```
     /// use rekusoyen::loader::elf::{Elf, Error, PvhBootCapability};

@@ -47,7 +47,6 @@ impl KernelLoader for Elf {
         lend(
             guest_mem,
             |guest| elf::load(guest, &image, options),
-            // a refusal may come after some of them were written, and then too many are told
             |_| segment_parts(&image, options),
         )
     }
@@ -74,7 +73,7 @@ impl KernelLoader for BzImage {
         lend(
             guest_mem,
             |guest| bzimage::load(guest, &image, options),
-            |answer| answer.iter().map(kernel_part).collect(),
+            |kernel| vec![kernel_part(kernel)],
         )
     }
 }
@@ -106,7 +105,7 @@ pub fn load_cmdline<M: GuestMemoryBackend>(
     lend(
         guest_mem,
         |guest| put_line(guest, guest_addr, cmdline),
-        |answer| answer.iter().map(|()| (guest_addr.0, length)).collect(),
+        |()| vec![(guest_addr.0, length)],
     )
 }
 
@@ -120,7 +119,7 @@ fn rest_of(reader: &mut impl Read) -> io::Result<Vec<u8>> {
 /// A part of guest memory: an address, and how many bytes from there on.
 type Part = (u64, u64);
 
-/// Where the file bytes of an image's loadable segments go.
+/// Where the file bytes of the loadable segments of an accepted image go.
 fn segment_parts(image: &[u8], options: Options) -> Vec<Part> {
     elf::segments(image)
         .filter(elf::Segment::is_loadable)
@@ -133,12 +132,12 @@ fn kernel_part(kernel: &KernelLoaderResult) -> Part {
     (start, kernel.kernel_end - start)
 }
 
-/// Lends the region at guest address 0 to a call, and marks in the region's bitmap what the call wrote, by its answer. A part that is
-/// marked and was not written does no harm; one that was written and is not marked would.
+/// Lends the region at guest address 0 to a call, and marks in the region's bitmap what the call wrote where it was accepted. A refused
+/// call writes nothing.
 fn lend<M: GuestMemoryBackend, T>(
     guest_mem: &M,
     call: impl FnOnce(Guest) -> Result<T>,
-    written: impl FnOnce(&Result<T>) -> Vec<Part>,
+    written: impl Fn(&T) -> Vec<Part>,
 ) -> Result<T> {
     let region = guest_mem.find_region(GuestAddress(0));
     let Some(bytes) = region.and_then(|region| region.as_volatile_slice().ok()) else {
@@ -150,7 +149,7 @@ fn lend<M: GuestMemoryBackend, T>(
     // affair, as it is with vm-memory's own copies.
     let answer = call(unsafe { Guest::at(start.as_ptr(), bytes.len()) });
     let size = bytes.len() as u64;
-    for (address, length) in written(&answer) {
+    for (address, length) in answer.iter().flat_map(written) {
         let room = size.saturating_sub(address);
         // both are at most the region's size, which is a usize
         bytes

@@ -3,6 +3,7 @@
 mod bzimage;
 mod elf;
 mod exhaustive;
+mod headers;
 mod line;
 mod load;
 mod note;
@@ -22,6 +23,11 @@ pub fn random(area: Area, rng: &mut Rng) -> Question {
         Area::Line => Question::Line(line::calls(rng)),
         Area::LineLoad => Question::LineLoad(load::question(rng)),
     }
+}
+
+/// A random question about the rules that depart from the published crate's.
+pub fn departing(rng: &mut Rng) -> Question {
+    Question::Elf(headers::question(rng))
 }
 
 /// Now and then a question is large: some hundred times the bytes of another, and so asked some thousand times less often.

@@ -4,7 +4,6 @@ use Prim.Native.Nat.{_+_, _-_, _≤_}
 use mathlib.Core.Path.{_≡_, sym, _∙_}
 use native.Mathlib.Omega.{arith}
 use native.Mathlib.Nat.{sub-zero}
-use native.Mathlib.Numerals.{add-one}
 use Rattle.elf.specs.Survey.{surveyFrom}
 use Rattle.elf.proofs.SurveyLaws.{survey-turn, survey-end}
 use Rattle.elf.proofs.survey.survey.Statement.{statement}
@@ -26,14 +25,6 @@ returns c =
     survey-turn (args .image .now) (args .memory) (args .offset) (at-turn .i) (at-turn .result) (omega arith)
     (c .before .before .before .before .read-header .ensures) (c .before .before .before .examine .ensures) (c .before .step2 .given .1) (at-turn .inv .1)
 
-returns-2 : tie.Need-returns-2 Inv-loop μ-loop
-returns-2 c =
-    let args = c .before .before .before .before .before .before .before .before .args in
-    let at-turn = c .before .before .before .before .before .before .loop in
-    rw add-one
-    (survey-turn (args .image .now) (args .memory) (args .offset) (at-turn .i) (at-turn .result) (omega arith)
-    (c .before .before .before .before .read-header .ensures) (c .before .before .before .examine .ensures) (c .before .step3 .given .1) (at-turn .inv .1))
-
 loop-again : tie.Need-loop-again Inv-loop μ-loop
 loop-again c =
     let args = c .before .before .before .before .before .before .before .before .before .args in
@@ -44,11 +35,11 @@ loop-again c =
           (c .before .before .before .before .before .read-header .ensures) (c .before .before .before .before .examine .ensures) (c .before .before .step .given .1) (at-turn .inv .1)),
     )
 
-returns-3 : tie.Need-returns-3 Inv-loop μ-loop
-returns-3 c =
+returns-2 : tie.Need-returns-2 Inv-loop μ-loop
+returns-2 c =
     let args = c .before .before .before .args in
     let at-end = c .before .loop in
-    survey-end (args .image .now) (args .memory) (args .offset) (at-end .i) (at-end .result) (omega arith) (omega arith) ∙ at-end .inv .1
+    survey-end (args .image .now) (args .memory) (args .offset) (at-end .i) (at-end .result) (omega arith) ∙ at-end .inv .1
 
 pub survey-spec : {M : Type 1} → statement M
 survey-spec =
@@ -63,10 +54,7 @@ survey-spec =
     (λ c κs. tt)
     (λ c. search needs)
     returns
-    (λ c. search needs)
-    (λ c. omega arith)
-    returns-2
     (λ c. omega arith)
     (λ c. omega arith)
     loop-again
-    returns-3)
+    returns-2)

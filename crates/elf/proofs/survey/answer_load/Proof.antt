@@ -1,13 +1,13 @@
--- `survey::plan_load`: where a test before the headers fails nothing is surveyed; where all hold, the load address fits and the headers stand.
+-- `survey::answer_load`: where a test before the headers fails nothing is surveyed; where all hold, the load address fits and the headers stand.
 use borrow.Author.Needs.{needs}
 use mathlib.Core.Path.{sym, _∙_}
 use native.Mathlib.Omega.{arith}
 use Rattle.answers.proofs.TestsLaws.{open-all}
 use Rattle.elf.specs.Header.{tests}
 use Rattle.elf.proofs.HeaderLaws.{load-fits, headers-stand}
-use Rattle.elf.proofs.PouringLaws.{planned-shut, planned-open}
-use Rattle.elf.proofs.survey.plan_load.Statement.{statement}
-use Rattle.elf.proofs.survey.plan_load.Tie as tie
+use Rattle.elf.proofs.PouringLaws.{answer-shut, answer-open}
+use Rattle.elf.proofs.survey.answer_load.Statement.{statement}
+use Rattle.elf.proofs.survey.answer_load.Tie as tie
 
 add-load : tie.Need-add-load
 add-load c =
@@ -27,18 +27,17 @@ survey-requires c κs =
 returns : tie.Need-returns
 returns c =
     let args = c .before .before .before .before .before .args in
-    let shut = sym (c .before .before .before .validate-header .ensures) ∙ c .before .gate .given .1 in
-    planned-shut (args .image .now) (args .memory) (args .offset) (args .highmem) shut
+    answer-shut (args .image .now) (args .memory) (args .offset) (args .highmem) (c .before .before .before .validate-header .ensures) (c .before .gate .given .1)
 
 returns-2 : tie.Need-returns-2
 returns-2 c =
     let args = c .before .before .before .before .before .before .before .before .args in
-    let opened = sym (c .before .before .before .before .before .before .validate-header .ensures) ∙ c .before .before .before .before .enum-told .given .1 in
-    planned-open (args .image .now) (args .memory) (args .offset) (args .highmem) opened (c .survey .ensures) (c .before .read-u16 .ensures .value)
-    (c .before .before .read-u64 .ensures .value) (c .before .before .before .amount .ensures)
+    answer-open (args .image .now) (args .memory) (args .offset) (args .highmem) (c .before .before .before .before .before .before .validate-header .ensures)
+    (c .before .before .before .before .enum-told .given .1) (c .survey .ensures) (c .before .read-u16 .ensures .value) (c .before .before .read-u64 .ensures .value)
+    (c .before .before .before .amount .ensures)
 
-pub plan-load-spec : {M : Type 1} → statement M
-plan-load-spec =
+pub answer-load-spec : {M : Type 1} → statement M
+answer-load-spec =
     tie.close
     (tie.spec
     (λ c κs. search needs)

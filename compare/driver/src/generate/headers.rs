@@ -1,0 +1,95 @@
+//! ELF images of several program headers, each good or refused in one way: what a load leaves when a later header is refused.
+
+use crate::examples::put;
+use crate::question::{Load, Options};
+use crate::rng::Rng;
+
+const HEADER: usize = 64;
+const PROGRAM_HEADER: usize = 56;
+const LOADABLE: u32 = 1;
+const NOTES: u32 = 4;
+
+/// How many bytes there are to load.
+const TEXT: u64 = 24;
+
+/// Type, place, address, file size and memory size.
+type Fields = (u32, [u64; 4]);
+
+/// What the headers of one image are chosen around.
+struct Plan {
+    moved: u64,
+    guest: u64,
+    /// Where the bytes to load begin in the image, and its length.
+    text: u64,
+    image: u64,
+}
+
+pub fn question(rng: &mut Rng) -> Load {
+    let count = rng.length(1, 5);
+    let text = HEADER + count * PROGRAM_HEADER;
+    let mut image = vec![0; text];
+    image.extend(rng.bytes(TEXT as usize));
+    let offset = rng.pick(&[None, None, Some(0), Some(1), Some(8)]);
+    let guest = rng.length(24, 48);
+    let plan = Plan {
+        moved: offset.unwrap_or(0),
+        guest: guest as u64,
+        text: text as u64,
+        image: image.len() as u64,
+    };
+    put(&mut image, 0, b"\x7fELF\x02\x01\x01");
+    put(&mut image, 24, &rng.below(64).to_le_bytes());
+    put(&mut image, 32, &(HEADER as u64).to_le_bytes());
+    put(&mut image, 54, &(PROGRAM_HEADER as u16).to_le_bytes());
+    put(&mut image, 56, &(count as u16).to_le_bytes());
+    for entry in image[HEADER..text].chunks_exact_mut(PROGRAM_HEADER) {
+        let (kind, numbers) = fields(rng, &plan);
+        put(entry, 0, &kind.to_le_bytes());
+        for (place, number) in [8, 24, 32, 40].into_iter().zip(numbers) {
+            put(entry, place, &number.to_le_bytes());
+        }
+    }
+    Load {
+        options: Options {
+            offset,
+            highmem: None,
+        },
+        image,
+        guest: rng.bytes(guest),
+    }
+}
+
+/// One program header; most are good, so that others come after them.
+fn fields(rng: &mut Rng, plan: &Plan) -> Fields {
+    match rng.below(8) {
+        0 => refused(rng, plan),
+        1 => cut_note(plan),
+        _ => good(rng, plan),
+    }
+}
+
+/// A segment that is loaded.
+fn good(rng: &mut Rng, plan: &Plan) -> Fields {
+    let size = 1 + rng.below(8);
+    let offset = plan.text + rng.below(TEXT - size + 1);
+    let address = rng.below(plan.guest - plan.moved - size + 1);
+    (LOADABLE, [offset, address, size, size + rng.below(9)])
+}
+
+/// A segment at a limit of the image, of guest memory or of 64 bits: refused, or just not.
+fn refused(rng: &mut Rng, plan: &Plan) -> Fields {
+    let (kind, [mut offset, mut address, size, mut memory]) = good(rng, plan);
+    let over = rng.below(2);
+    match rng.below(4) {
+        0 => offset = plan.image - size + over,
+        1 => address = plan.guest - plan.moved - size + over,
+        2 => address = plan.moved.wrapping_neg().wrapping_sub(1 - over),
+        _ => memory = (address + plan.moved).wrapping_neg().wrapping_sub(1 - over),
+    }
+    (kind, [offset, address, size, memory])
+}
+
+/// A note header whose note passes the image.
+fn cut_note(plan: &Plan) -> Fields {
+    (NOTES, [plan.image - 11, 0, 1, 0])
+}
