@@ -179,13 +179,14 @@ static inline const char *rekusoyen_answer_sentence(uint32_t answer)
  *   offset   where given, it is added to every segment's p_paddr and to the load address
  *   highmem  where given, the image's e_entry, before the offset is added, must not lie below it
  *   out      REKUSOYEN_ELF_LOAD_OUT places: the load address (e_entry, plus the offset); the kernel's end (the greatest
- *            address + p_memsz of the segments that are loaded, 0 without any; it may lie past guest memory); the PVH code;
+ *            address + p_memsz of the loadable segments, 0 without any; it may lie past guest memory); the PVH code;
  *            and the PVH address or 0
  *
  * Program headers are taken in file order. One of type 1 (loadable) with p_filesz above 0 has its p_filesz bytes copied to
- * its address, p_paddr plus the offset; guest memory after them, up to p_memsz, is not cleared. One of type 4 (notes) sets PVH
- * anew: to ignored where an offset is given, else to what rekusoyen_elf_note says of its p_filesz bytes at p_offset. All others
- * are skipped. Without a note header PVH is ignored.
+ * its address, p_paddr plus the offset; guest memory after them, up to p_memsz, is not cleared. One of type 1 with p_filesz 0 and
+ * p_memsz above 0 is memory alone: it counts for the kernel's end, nothing is copied, and guest memory need not have it. One that
+ * is empty in both sizes is skipped. One of type 4 (notes) sets PVH anew: to ignored where an offset is given, else to what
+ * rekusoyen_elf_note says of its p_filesz bytes at p_offset. All others are skipped. Without a note header PVH is ignored.
  *
  * Refusals:
  *   NO_ROOM                         out_len is not REKUSOYEN_ELF_LOAD_OUT
@@ -195,9 +196,9 @@ static inline const char *rekusoyen_answer_sentence(uint32_t answer)
  *   INVALID_ENTRY_ADDRESS           highmem is given, and e_entry is below it
  *   OVERFLOW                        offset + e_entry is 2^64 or more
  *   READ_PROGRAM_HEADER             e_phnum is above 0, and the program headers pass the image
- * and then of each program header in turn, of a loadable one with p_filesz above 0:
+ * and then of each program header in turn, of a loadable one that is not empty in both sizes:
  *   INVALID_PROGRAM_HEADER_ADDRESS  offset + p_paddr is 2^64 or more
- *   READ_KERNEL_IMAGE               its bytes pass the image, or at their address guest memory
+ *   READ_KERNEL_IMAGE               p_filesz is above 0, and its bytes pass the image, or at their address guest memory
  *   MEMORY_OVERFLOW                 its address + p_memsz is 2^64 or more
  * and of one with notes, where no offset is given: READ_NOTE_HEADER, OVERFLOW and INVALID_PVH_NOTE as of rekusoyen_elf_note.
  *

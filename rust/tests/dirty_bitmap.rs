@@ -66,8 +66,10 @@ fn an_accepted_elf_load_marks_its_segments() {
         // across the border of two pages, with memory behind it that has no bytes
         .with(LOADABLE, B - 1, b"de")
         .edited(|header| header.p_memsz = 0x1_0000)
-        // what has no bytes is passed over, wherever it belongs, and so is what is not loaded
+        // what has no bytes writes nothing, wherever it belongs, with memory or without, and so does what is not loaded
         .with(LOADABLE, u64::MAX, b"")
+        .with(LOADABLE, A - 1, b"")
+        .edited(|header| header.p_memsz = 0x8_0000)
         .with(7, ROOM, b"skipped")
         .with(LOADABLE, C, b"f");
     let written: &[(u64, u64)] = &[(A, 3), (B - 1, 2), (C, 1)];

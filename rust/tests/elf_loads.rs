@@ -85,14 +85,34 @@ fn later_segments_cover_earlier_ones_and_the_greatest_end_counts() {
         .with(LOADABLE, 8, b"abcd")
         .edited(|header| header.p_memsz = 20)
         .with(LOADABLE, 10, b"xyz")
-        // no bytes: skipped, and its end does not count
-        .with(LOADABLE, 1 << 50, b"")
-        .edited(|header| header.p_memsz = u64::MAX)
+        // neither bytes nor memory: skipped
+        .with(LOADABLE, u64::MAX, b"")
         // of no type that a load knows
         .with(7, u64::MAX, b"skipped")
         .bytes();
     let written: &[(usize, &[u8])] = &[(8, b"ab"), (10, b"xyz")];
     load(&image, 16, None, None).gives(2, 28, PvhEntryIgnored, written);
+}
+
+#[test]
+fn memory_without_bytes_counts_for_the_end() {
+    let memory = |address, size| {
+        let with = plain().with(LOADABLE, address, b"");
+        with.edited(|header| header.p_memsz = size)
+            // where its bytes would stand does not matter
+            .edited(|header| header.p_offset = u64::MAX)
+            .bytes()
+    };
+    let written: &[(usize, &[u8])] = &[(16, b"abc")];
+    load(&memory(1 << 50, 5), 32, None, None).gives(16, (1 << 50) + 5, PvhEntryIgnored, written);
+    load(&memory(2, 5), 32, None, None).gives(16, 24, PvhEntryIgnored, written);
+    let last = u64::MAX;
+    load(&memory(1, last - 1), 32, None, None).gives(16, last, PvhEntryIgnored, written);
+    load(&memory(1, last), 32, None, None).is_refused(loader::Error::MemoryOverflow);
+    let far = load(&memory(last, 1), 32, Some(1), None);
+    far.is_refused(Error::InvalidProgramHeaderAddress);
+    // empty in both sizes: passed over, wherever it would lie
+    load(&memory(last, 0), 32, Some(1), None).gives(17, 25, PvhEntryIgnored, &[(17, b"abc")]);
 }
 
 #[test]

@@ -11,6 +11,7 @@ pub fn all() -> Vec<Case> {
     [
         elf(),
         refused_later(),
+        memory_alone(),
         notes(),
         bzimage(),
         lines(),
@@ -56,7 +57,7 @@ fn elf() -> Vec<Case> {
         edited(1, 0, "elf refused 1, nothing changed"),
         edited(56, 2, "elf refused 8, nothing changed"),
         // no file bytes; one more than the image has; a program header of another type
-        edited(96, 0, "elf ok 16 0 pvh ignored, nothing changed"),
+        edited(96, 0, "elf ok 16 24 pvh ignored, nothing changed"),
         edited(96, 4, "elf refused 10, nothing changed"),
         edited(64, 2, "elf ok 16 0 pvh ignored, nothing changed"),
     ]
@@ -155,6 +156,64 @@ fn refused_later() -> Vec<Case> {
             Some(0),
             &skipped,
             "elf ok 16 24 pvh ignored, 16 to 18 changed",
+        ),
+    ]
+}
+
+/// Segments without file bytes: with memory they count for the end, and without they are passed over.
+fn memory_alone() -> Vec<Case> {
+    let case = |headers: &[Header], offset, told| {
+        let load = with_headers(headers, offset, &[]);
+        (Question::Elf(load), told)
+    };
+    // its place in the image, past it, does not matter
+    let memory = |address, memory_size| (LOADABLE, 999, address, 0, memory_size);
+    let last = u64::MAX;
+    vec![
+        case(
+            &[SMALL, memory(40, 60)],
+            None,
+            "elf ok 16 100 pvh ignored, 16 to 18 changed",
+        ),
+        case(
+            &[memory(40, 60), SMALL],
+            Some(4),
+            "elf ok 20 104 pvh ignored, 20 to 22 changed",
+        ),
+        case(
+            &[SMALL, memory(3, 4)],
+            None,
+            "elf ok 16 24 pvh ignored, 16 to 18 changed",
+        ),
+        case(
+            &[SMALL, memory(last - 1, 1)],
+            None,
+            "elf ok 16 18446744073709551615 pvh ignored, 16 to 18 changed",
+        ),
+        case(
+            &[SMALL, memory(last - 1, 2)],
+            None,
+            "elf refused 13, nothing changed",
+        ),
+        case(
+            &[SMALL, memory(last, last)],
+            Some(0),
+            "elf refused 13, nothing changed",
+        ),
+        case(
+            &[SMALL, memory(last, last)],
+            Some(1),
+            "elf refused 9, nothing changed",
+        ),
+        case(
+            &[SMALL, memory(last, 0)],
+            Some(1),
+            "elf ok 17 25 pvh ignored, 17 to 19 changed",
+        ),
+        case(
+            &[memory(last, 0)],
+            None,
+            "elf ok 16 0 pvh ignored, nothing changed",
         ),
     ]
 }

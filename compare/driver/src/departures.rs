@@ -77,8 +77,9 @@ mod tests {
 
     #[test]
     fn the_smallest_sets_come_first_and_each_once() {
-        let one = [Departure::L13];
-        assert_eq!(sets(&one), [vec![], vec![Departure::L13]]);
+        let (one, other) = (Departure::L13, Departure::L3);
+        let wanted = [vec![], vec![one], vec![other], vec![one, other]];
+        assert_eq!(sets(&[one, other]), wanted);
         assert_eq!(sets(&[]), [vec![]]);
     }
 

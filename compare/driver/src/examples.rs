@@ -67,12 +67,20 @@ pub fn pvh_note() -> [u8; 20] {
 
 /// The smallest loads that a departure from the published crate shows in: its name, what is loaded, what the rules say, and the load.
 pub fn departures() -> Vec<(&'static str, &'static str, &'static str, Load)> {
-    vec![(
-        "L13",
-        "a segment of 1 byte for address 1 with p_memsz 2^64 - 1, 2 guest bytes",
-        "refused 13, nothing written",
-        smallest(&[(64, 1), (88, 1), (96, 1)], &[104..112], 2),
-    )]
+    vec![
+        (
+            "L13",
+            "a segment of 1 byte for address 1 with p_memsz 2^64 - 1, 2 guest bytes",
+            "refused 13, nothing written",
+            smallest(&[(64, 1), (88, 1), (96, 1)], &[104..112], 2),
+        ),
+        (
+            "L3",
+            "a segment without file bytes, p_memsz 1, for address 0, 1 guest byte",
+            "load 0, end 1, nothing written",
+            smallest(&[(64, 1), (104, 1)], &[], 1),
+        ),
+    ]
 }
 
 /// An ELF image of 120 bytes, header and one program header, all 0 but for what a load asks of the header and these bytes: places with

@@ -40,17 +40,19 @@ pub fn load_elf(
     // nothing is written before every header has passed
     let mut copies = Vec::new();
     for header in headers.chunks_exact(56) {
-        let size = u64_at(header, 32);
-        if u32_at(header, 0) != 1 || size == 0 {
+        let (size, memory) = (u64_at(header, 32), u64_at(header, 40));
+        if u32_at(header, 0) != 1 || (size == 0 && memory == 0) {
             continue;
         }
         let address = shift.checked_add(u64_at(header, 24));
         let address = address.ok_or(Refusal::InvalidProgramHeaderAddress)?;
-        let from = part(image, u64_at(header, 8), size).ok_or(Refusal::ReadKernelImage)?;
-        part_mut(guest, address, size).ok_or(Refusal::ReadKernelImage)?;
-        let segment_end = address.checked_add(u64_at(header, 40));
+        if size > 0 {
+            let from = part(image, u64_at(header, 8), size).ok_or(Refusal::ReadKernelImage)?;
+            part_mut(guest, address, size).ok_or(Refusal::ReadKernelImage)?;
+            copies.push((address as usize, from));
+        }
+        let segment_end = address.checked_add(memory);
         end = end.max(segment_end.ok_or(Refusal::MemoryOverflow)?);
-        copies.push((address as usize, from));
     }
     for (address, from) in copies {
         guest[address..address + from.len()].copy_from_slice(from);

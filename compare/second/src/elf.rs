@@ -44,7 +44,7 @@ pub fn load(
     highmem: Option<u64>,
 ) -> Result<Loaded, Refusal> {
     let mut memory = guest.to_vec();
-    let outcome = load_into(image, &mut memory, offset, highmem);
+    let outcome = load_into(rules, image, &mut memory, offset, highmem);
     if outcome.is_ok() || !rules.has(Departure::L13) {
         guest.copy_from_slice(&memory);
     }
@@ -53,6 +53,7 @@ pub fn load(
 
 /// Takes the headers in turn, and writes each segment when it is met.
 fn load_into(
+    rules: Rules,
     image: &[u8],
     guest: &mut [u8],
     offset: Option<u64>,
@@ -72,6 +73,9 @@ fn load_into(
             TYPE_LOAD if program_header.file_size > 0 => {
                 let segment_end = load_segment(image, guest, offset, &program_header)?;
                 end = end.max(segment_end);
+            }
+            TYPE_LOAD if rules.has(Departure::L3) && program_header.memory_size > 0 => {
+                end = end.max(memory_end(offset, &program_header)?);
             }
             TYPE_NOTE => pvh = pvh_of(image, offset, &program_header)?,
             _ => {}
@@ -142,6 +146,12 @@ fn load_segment(
     };
     guest[to].copy_from_slice(&image[from]);
     moved(address, Some(segment.memory_size)).ok_or(Refusal::MemoryOverflow)
+}
+
+/// Where a segment of memory alone ends: there is nothing to copy, and guest memory need not have it.
+fn memory_end(offset: Option<u64>, memory: &ProgramHeader) -> Result<u64, Refusal> {
+    let start = moved(memory.address, offset).ok_or(Refusal::InvalidProgramHeaderAddress)?;
+    moved(start, Some(memory.memory_size)).ok_or(Refusal::MemoryOverflow)
 }
 
 /// What one note header makes of PVH: an image that is moved cannot be entered at its PVH entry point.
@@ -308,6 +318,29 @@ mod tests {
             load(PUBLISHED, &image, &mut [0; 1], None, None),
             loaded(16, 0, Pvh::Ignored)
         );
+    }
+
+    #[test]
+    fn memory_alone_counts_for_the_end() {
+        let rules = Rules::of(&[Departure::L3]);
+        let ask = |image: &[u8], offset| load(rules, image, &mut [], offset, None);
+        let mut image = small();
+        // no file bytes, wherever they would stand
+        image[96] = 0;
+        image[72..80].fill(0xff);
+        assert_eq!(ask(&image, None), loaded(16, 24, Pvh::Ignored));
+        assert_eq!(ask(&image, Some(4)), loaded(20, 28, Pvh::Ignored));
+        put(&mut image, 104, &(u64::MAX - 16).to_le_bytes());
+        assert_eq!(ask(&image, None), loaded(16, u64::MAX, Pvh::Ignored));
+        assert_eq!(ask(&image, Some(1)), Err(Refusal::MemoryOverflow));
+        put(&mut image, 88, &u64::MAX.to_le_bytes());
+        assert_eq!(
+            ask(&image, Some(1)),
+            Err(Refusal::InvalidProgramHeaderAddress)
+        );
+        // empty in both sizes: passed over, even where its address wraps
+        image[104..112].fill(0);
+        assert_eq!(ask(&image, Some(1)), loaded(17, 0, Pvh::Ignored));
     }
 
     #[test]

@@ -5,15 +5,18 @@
 pub enum Departure {
     /// A refused load leaves guest memory as it was.
     L13,
+    /// A loadable segment of memory alone, without file bytes, counts for the kernel's end.
+    L3,
 }
 
 impl Departure {
     /// Those that the proved code has. Each request adds its own when it lands.
-    pub const LANDED: &'static [Departure] = &[Departure::L13];
+    pub const LANDED: &'static [Departure] = &[Departure::L13, Departure::L3];
 
     pub fn name(self) -> &'static str {
         match self {
             Departure::L13 => "L13",
+            Departure::L3 => "L3",
         }
     }
 }
@@ -59,7 +62,8 @@ mod tests {
     #[test]
     fn only_what_is_switched_on_departs() {
         assert!(!Rules::PUBLISHED.has(Departure::L13));
-        assert!(Rules::of(&[Departure::L13]).has(Departure::L13));
+        let rules = Rules::of(&[Departure::L13]);
+        assert!(rules.has(Departure::L13) && !rules.has(Departure::L3));
         assert_eq!(Rules::of(&[]), Rules::PUBLISHED);
         for departure in Departure::LANDED {
             assert!(Rules::landed().has(*departure));

@@ -28,7 +28,7 @@ use Rattle.guest.specs.declared.Memory.{Memory}
 use Rattle.guest.proofs.LoadingLaws.{LiftPlan, behind-keeps}
 use Rattle.elf.specs.Header.{headerSize, programHeaderSize, magic, e-phoff, e-phnum, standWithin, lengthTests, fileTests, entryTests, standTests, fieldTests, tests}
 use Rattle.elf.specs.ProgramHeaders.{headerPlace, headerAt, headerOf, HeadersStand}
-use Rattle.elf.specs.Survey.{segmentStep, saidStep, noteStep, stepOf, advanced, blank, afterStep, surveyFrom, loadAddress, surveyOf}
+use Rattle.elf.specs.Survey.{segmentStep, loadStep, saidStep, noteStep, stepOf, advanced, blank, afterStep, surveyFrom, loadAddress, surveyOf}
 use Rattle.elf.specs.Pouring.{segmentStream, streamFrom, wholeStream, ifLoaded, surveyPlan, planOf}
 use Rattle.elf.specs.Verdict.{Accepted, is-accepted}
 use Rattle.elf.specs.Rules.{SegmentFits}
@@ -130,6 +130,10 @@ module _ (s t : List ℕ) (Lifts : Refusal → Type 0) (lifts : (r : Refusal) �
         (λ _. pick-grows (LiftStep Lifts) _ _ (more-memory .rooms _ _) (λ _. same) (lift-step lifts-room)))
         (λ _. same)
 
+    load-longer : (shift : ℕ) (h : ProgramHeader) → Keeps (LiftStep Lifts) (loadStep (length s) m shift h) (loadStep (length (s ++ t)) m' shift h)
+    unfolding loadStep
+    load-longer shift h = pick-same (LiftStep Lifts) _ _ refl (λ _. same) (λ _. segment-longer shift h)
+
     note-longer : (h : ProgramHeader) → Keeps (LiftStep Lifts) (noteStep s offset h) (noteStep (s ++ t) offset h)
     unfolding noteStep
     note-longer h = pick-same (LiftStep Lifts) _ _ refl (λ _. same) (λ _. said-after Lifts (entry-longer s t Lifts (lifts ReadNoteHeader note) (h .«p_offset») (h .«p_filesz»)))
@@ -137,8 +141,7 @@ module _ (s t : List ℕ) (Lifts : Refusal → Type 0) (lifts : (r : Refusal) �
     step-longer : (h : ProgramHeader) → Keeps (LiftStep Lifts) (stepOf s m offset h) (stepOf (s ++ t) m' offset h)
     unfolding stepOf
     step-longer h =
-        pick-same (LiftStep Lifts) _ _ refl
-        (λ _. pick-same (LiftStep Lifts) _ _ refl (λ _. same) (λ _. segment-longer (amountOf offset) h))
+        pick-same (LiftStep Lifts) _ _ refl (λ _. load-longer (amountOf offset) h)
         (λ _. pick-same (LiftStep Lifts) _ _ refl (λ _. note-longer h) (λ _. same))
 
     survey-longer : (n i : ℕ) (result : KernelLoaderResult) → headerSize ≤ length s → HeadersStand s (i + n)

@@ -12,4 +12,5 @@ pub mod NoteVerdicts
 pub mod NotesLengthened
 pub mod Lengthened
 pub mod MoreRoom
+pub mod KernelEnd
 pub mod Outcomes

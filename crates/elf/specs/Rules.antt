@@ -29,6 +29,11 @@ pub record SegmentRules (imageLength : ℕ) (m : Memory) (shift : ℕ) (h : Prog
 abbrev pub SegmentFits : ℕ → Memory → ℕ → ProgramHeader → Type 0
 SegmentFits imageLength m shift h = h .«p_type» ≡ 1 → 0 < h .«p_filesz» → SegmentRules imageLength m shift h
 
+-- of one of memory alone
+pub record MemoryRules (shift : ℕ) (h : ProgramHeader) : Type 0 where
+  pub address-fits : fits64 shift (h .«p_paddr» .0) ≡ true
+  pub end-fits : fits64 (shift + h .«p_paddr» .0) (h .«p_memsz») ≡ true
+
 -- the notes of a program header do not refuse
 pub data NotesSay : NoteAnswer → Type 0 where
   notes-say : {cap : PvhBootCapability} → NotesSay (Says cap)
@@ -36,6 +41,7 @@ pub data NotesSay : NoteAnswer → Type 0 where
 -- of any program header
 pub record HeaderRules (image : List ℕ) (m : Memory) (offset : Given) (h : ProgramHeader) : Type 0 where
   pub segment : SegmentFits (length image) m (amountOf offset) h
+  pub memory : h .«p_type» ≡ 1 → h .«p_filesz» ≡ 0 → 0 < h .«p_memsz» → MemoryRules (amountOf offset) h
   pub notes : h .«p_type» ≡ 4 → isGiven offset ≡ false → NotesSay (entryOf image (h .«p_offset») (h .«p_filesz») .answer)
 
 -- of a load

@@ -26,17 +26,29 @@ use Rattle.elf.specs.declared.survey.Effect.the-variants as effect
 use Rattle.elf.specs.declared.survey.Step.{Step}
 use Rattle.elf.specs.declared.survey.Step.the-variants.{Pass, Stop}
 
+-- the end of a segment's memory, of this size from an address on
+unfoldable pub endStep : ℕ → ℕ → Step
+endStep at size = pick (fits64 at size) (Pass (effect.EndsAt (record { 0 = at + size }))) (Stop refusal.MemoryOverflow)
+
 -- a loadable segment with file bytes, moved by shift: its address, its bytes in the image, their room in guest memory, its end
 unfoldable pub segmentStep : ℕ → Memory → ℕ → ProgramHeader → Step
 segmentStep imageLength m shift h =
     let at = shift + h .«p_paddr» .0 in
     pick (fits64 shift (h .«p_paddr» .0))
     (pick (liesWithin imageLength (h .«p_offset» .0) (h .«p_filesz»))
-    (pick (room m at (h .«p_filesz»))
-    (pick (fits64 at (h .«p_memsz»)) (Pass (effect.EndsAt (record { 0 = at + h .«p_memsz» }))) (Stop refusal.MemoryOverflow))
-    (Stop refusal.ReadKernelImage))
+    (pick (room m at (h .«p_filesz»)) (endStep at (h .«p_memsz»)) (Stop refusal.ReadKernelImage))
     (Stop refusal.ReadKernelImage))
     (Stop refusal.InvalidProgramHeaderAddress)
+
+-- one of memory alone, which is to be cleared: its address and its end. Nothing is read or written, and room is not asked
+unfoldable pub memoryStep : ℕ → ProgramHeader → Step
+memoryStep shift h =
+    pick (fits64 shift (h .«p_paddr» .0)) (endStep (shift + h .«p_paddr» .0) (h .«p_memsz»)) (Stop refusal.InvalidProgramHeaderAddress)
+
+-- a loadable segment: with file bytes, of memory alone, or empty in both sizes and skipped
+unfoldable pub loadStep : ℕ → Memory → ℕ → ProgramHeader → Step
+loadStep imageLength m shift h =
+    pick (eqb (h .«p_filesz») 0) (pick (eqb (h .«p_memsz») 0) (Pass effect.Nothing) (memoryStep shift h)) (segmentStep imageLength m shift h)
 
 -- what the notes say, as a step
 abbrev pub saidStep : NoteAnswer → Step
@@ -47,11 +59,11 @@ saidStep (answer.Refused r) = Stop r
 unfoldable pub noteStep : List ℕ → Given → ProgramHeader → Step
 noteStep image offset h = pick (isGiven offset) (Pass (effect.Pvh pvh.PvhEntryIgnored)) (saidStep (entryOf image (h .«p_offset») (h .«p_filesz») .answer))
 
--- any program header, by its type: 1 is loadable, 4 has notes, others are skipped, as is a loadable one without file bytes
+-- any program header, by its type: 1 is loadable, 4 has notes, others are skipped
 unfoldable pub stepOf : List ℕ → Memory → Given → ProgramHeader → Step
 stepOf image m offset h =
     pick (eqb (h .«p_type») 1)
-    (pick (eqb (h .«p_filesz») 0) (Pass effect.Nothing) (segmentStep (length image) m (amountOf offset) h))
+    (loadStep (length image) m (amountOf offset) h)
     (pick (eqb (h .«p_type») 4) (noteStep image offset h) (Pass effect.Nothing))
 
 -- the result after one more program header: the end is the greatest so far, and the last note header decides

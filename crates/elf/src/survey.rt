@@ -12,7 +12,7 @@
 ghost use mathlib.Core.Path.{_≡_};
 ghost use Prim.Native.Nat.{max};
 ghost use Rattle.elf.specs.ProgramHeaders.{HeadersStand};
-ghost use Rattle.elf.specs.Survey.{segmentStep, noteStep, stepOf, advanced, blank, surveyFrom};
+ghost use Rattle.elf.specs.Survey.{endStep, segmentStep, memoryStep, loadStep, noteStep, stepOf, advanced, blank, surveyFrom};
 ghost use Rattle.elf.specs.Pouring.{planOf};
 use crate::Answer;
 use crate::KernelLoaderResult;
@@ -45,6 +45,16 @@ pub enum Step {
     Stop(Refusal),
 }
 
+// The end of a segment's memory, of this size from an address on.
+fn end_step(at: u64, size: u64) -> Step
+    ensures { λ r. ⌜ r ≡ endStep at size ⌝ }
+{
+    if !ranges::sum_fits(at, size) {
+        return Step::Stop(Refusal::MemoryOverflow);
+    }
+    Step::Pass(Effect::EndsAt(GuestAddress(at + size)))
+}
+
 // A loadable segment with file bytes.
 fn segment_step(image_len: u64, memory: Memory, shift: u64, h: ProgramHeader) -> Step
     ensures { λ r. ⌜ r ≡ segmentStep «image_len» memory shift h ⌝ }
@@ -60,11 +70,31 @@ fn segment_step(image_len: u64, memory: Memory, shift: u64, h: ProgramHeader) ->
     if !room::has_room(memory, GuestAddress(at), h.p_filesz) {
         return Step::Stop(Refusal::ReadKernelImage);
     }
-    let p_memsz = h.p_memsz;
-    if !ranges::sum_fits(at, p_memsz) {
-        return Step::Stop(Refusal::MemoryOverflow);
+    end_step(at, h.p_memsz)
+}
+
+// A loadable segment of memory alone: nothing is read or written, and room is not asked.
+fn memory_step(shift: u64, h: ProgramHeader) -> Step
+    ensures { λ r. ⌜ r ≡ memoryStep shift h ⌝ }
+{
+    let p_paddr = h.p_paddr.0;
+    if !ranges::sum_fits(shift, p_paddr) {
+        return Step::Stop(Refusal::InvalidProgramHeaderAddress);
     }
-    Step::Pass(Effect::EndsAt(GuestAddress(at + p_memsz)))
+    end_step(shift + p_paddr, h.p_memsz)
+}
+
+// A loadable segment.
+fn load_step(image_len: u64, memory: Memory, shift: u64, h: ProgramHeader) -> Step
+    ensures { λ r. ⌜ r ≡ loadStep «image_len» memory shift h ⌝ }
+{
+    if h.p_filesz == 0 {
+        if h.p_memsz == 0 {
+            return Step::Pass(Effect::Nothing);
+        }
+        return memory_step(shift, h);
+    }
+    segment_step(image_len, memory, shift, h)
 }
 
 // A note header. With an offset it is not walked.
@@ -89,10 +119,7 @@ fn examine(image: &[u8], memory: Memory, offset: Given, h: ProgramHeader) -> Ste
 {
     let p_type = h.p_type;
     if p_type == 1 {
-        if h.p_filesz == 0 {
-            return Step::Pass(Effect::Nothing);
-        }
-        return segment_step(image.len() as u64, memory, addresses::amount(offset), h);
+        return load_step(image.len() as u64, memory, addresses::amount(offset), h);
     }
     if p_type == 4 {
         return note_step(image, offset, h);

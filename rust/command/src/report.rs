@@ -103,7 +103,11 @@ fn address_of(segment: &Segment, asked: &Load) -> Option<u64> {
 
 /// A segment, with the sizes that it asks for; where it is refused, with those that there are.
 pub fn segment_details(segment: &Segment, image: &[u8], asked: &Load) -> String {
-    let bytes = format!("{} bytes at {:#x}", segment.p_filesz, segment.p_offset);
+    let bytes = if segment.p_filesz == 0 && segment.is_loadable() {
+        "no bytes".to_string()
+    } else {
+        format!("{} bytes at {:#x}", segment.p_filesz, segment.p_offset)
+    };
     if segment.is_note() {
         let told = if asked.offset.is_some() {
             ", not read since there is an offset"
@@ -115,18 +119,19 @@ pub fn segment_details(segment: &Segment, image: &[u8], asked: &Load) -> String 
     if !segment.is_loadable() {
         return format!("type {:#x}, {bytes}, skipped", segment.p_type);
     }
-    if segment.p_filesz == 0 {
-        return format!(
-            "load, no bytes, skipped; its {} bytes of memory are not counted",
-            segment.p_memsz
-        );
+    if segment.p_filesz == 0 && segment.p_memsz == 0 {
+        return "load, no bytes and no memory, skipped".to_string();
     }
     let address = address_of(segment, asked).unwrap_or(u64::MAX);
     match Problem::of(segment, image, asked) {
-        None => format!(
-            "load, {bytes} to guest {address:#x}, memory to {:#x}",
-            u128::from(address) + u128::from(segment.p_memsz)
-        ),
+        None => {
+            let end = u128::from(address) + u128::from(segment.p_memsz);
+            if segment.p_filesz == 0 {
+                format!("load, {bytes}, memory at guest {address:#x} to {end:#x}")
+            } else {
+                format!("load, {bytes} to guest {address:#x}, memory to {end:#x}")
+            }
+        }
         Some(Problem::Address) => format!(
             "load, {bytes}: the offset {:#x} and p_paddr {:#x} add up to 2^64 or more",
             asked.offset.map_or(0, |offset| offset.0),

@@ -139,6 +139,41 @@ fn an_elf_load_prints_three_lines() {
 }
 
 #[test]
+fn memory_without_bytes_counts_for_the_end() {
+    let memory = edited(96, &[0]);
+    let segment = "segment 0: load, no bytes, memory at guest 0x10 to 0x18\n";
+    let told = "load 16\nend 24\npvh ignored\n";
+    // it needs no room
+    for guest in ["0", "32"] {
+        let words = ["load", "--verbose", "--guest", guest];
+        accepted_with(&words, &memory, &format!("{segment}{told}"), NO_NOTES);
+    }
+    let mut last = edited(96, &[0]);
+    last[88..96].fill(0xff);
+    refused(
+        &["load"],
+        &last,
+        "refused 13 MemoryOverflow\n\
+         segment 0: load, no bytes to guest 0xffffffffffffffff: with its 8 bytes of memory it ends at 2^64 or more\n",
+    );
+    refused(
+        &["load", "--offset", "1"],
+        &last,
+        "refused 9 InvalidProgramHeaderAddress\n\
+         segment 0: load, no bytes: the offset 0x1 and p_paddr 0xffffffffffffffff add up to 2^64 or more\n\
+         try: a lower --offset, or none\n",
+    );
+    // without memory either it is passed over
+    last[104] = 0;
+    accepted_with(
+        &["load", "--verbose", "--offset", "1"],
+        &last,
+        "segment 0: load, no bytes and no memory, skipped\nload 17\nend 0\npvh ignored\n",
+        OFFSET,
+    );
+}
+
+#[test]
 fn a_bzimage_load_prints_two() {
     accepted(&["load"], &bzimage(), "load 16\nend 19\n");
     accepted(

@@ -61,9 +61,10 @@ pub fn question(rng: &mut Rng) -> Load {
 
 /// One program header; most are good, so that others come after them.
 fn fields(rng: &mut Rng, plan: &Plan) -> Fields {
-    match rng.below(8) {
+    match rng.below(10) {
         0 => refused(rng, plan),
         1 => cut_note(plan),
+        2 | 3 => memory_alone(rng, plan),
         _ => good(rng, plan),
     }
 }
@@ -87,6 +88,24 @@ fn refused(rng: &mut Rng, plan: &Plan) -> Fields {
         _ => memory = (address + plan.moved).wrapping_neg().wrapping_sub(1 - over),
     }
     (kind, [offset, address, size, memory])
+}
+
+/// A segment without file bytes: its memory within the guest, past it, at the end of 64 bits, or none.
+fn memory_alone(rng: &mut Rng, plan: &Plan) -> Fields {
+    let wraps = plan.moved.wrapping_neg();
+    let near = [plan.guest - plan.moved, u64::MAX - 64, wraps];
+    let address = match rng.below(2) {
+        0 => rng.below(plan.guest),
+        _ => rng.near(&near),
+    };
+    let ends = address.wrapping_add(plan.moved).wrapping_neg();
+    let memory = match rng.below(4) {
+        0 => 0,
+        1 => rng.near(&[ends]),
+        _ => 1 + rng.below(64),
+    };
+    let offset = rng.pick(&[plan.text, plan.image, u64::MAX]);
+    (LOADABLE, [offset, address, 0, memory])
 }
 
 /// A note header whose note passes the image.

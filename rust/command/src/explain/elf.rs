@@ -35,7 +35,7 @@ pub fn explain(refusal: Refusal, image: &[u8], asked: &Load) -> Option<Explained
         Refusal::ReadNoteHeader | Refusal::InvalidPvhNote => by_note(refusal, image, asked),
         _ => segments(image)
             .enumerate()
-            .filter(|(_, segment)| segment.is_loadable() && segment.p_filesz > 0)
+            .filter(|(_, segment)| segment.is_loadable())
             .find_map(|(i, segment)| by_segment(refusal, i, &segment, image, asked)),
     }
 }
@@ -122,7 +122,7 @@ fn by_segment(
 
 /// How much guest memory all segments need that pass it.
 fn needed(image: &[u8], asked: &Load) -> u128 {
-    let loaded = segments(image).filter(|segment| segment.is_loadable() && segment.p_filesz > 0);
+    let loaded = segments(image).filter(Segment::is_loadable);
     let ends = loaded.filter_map(|segment| match Problem::of(&segment, image, asked) {
         Some(Problem::Guest(end)) => Some(end),
         _ => None,
@@ -130,7 +130,7 @@ fn needed(image: &[u8], asked: &Load) -> u128 {
     ends.max().unwrap_or(0)
 }
 
-/// Why a segment that has bytes for memory is refused.
+/// Why a loadable segment is refused.
 #[derive(Clone, Copy, Debug, PartialEq)]
 pub enum Problem {
     /// The offset and its address add up to 2^64 or more.
@@ -146,6 +146,10 @@ pub enum Problem {
 impl Problem {
     /// The first that there is, in the order in which they are asked.
     pub fn of(segment: &Segment, image: &[u8], asked: &Load) -> Option<Problem> {
+        let has_bytes = segment.p_filesz > 0;
+        if !has_bytes && segment.p_memsz == 0 {
+            return None;
+        }
         let Some(address) = asked
             .offset
             .map_or(0, |offset| offset.0)
@@ -154,9 +158,9 @@ impl Problem {
             return Some(Problem::Address);
         };
         let end_of = |start: u64| u128::from(start) + u128::from(segment.p_filesz);
-        if end_of(segment.p_offset) > image.len() as u128 {
+        if has_bytes && end_of(segment.p_offset) > image.len() as u128 {
             Some(Problem::Image)
-        } else if end_of(address) > u128::from(asked.guest) {
+        } else if has_bytes && end_of(address) > u128::from(asked.guest) {
             Some(Problem::Guest(end_of(address)))
         } else if address.checked_add(segment.p_memsz).is_none() {
             Some(Problem::Memory)

@@ -1,9 +1,9 @@
 -- `survey::segment_step`: by the tests, as the definition asks them.
 use borrow.Author.Needs.{needs}
 use native.Mathlib.Omega.{arith}
-use Rattle.fields.proofs.RangesLaws.{within-sum}
-use Rattle.answers.proofs.PickLaws.{failed, held}
 use Rattle.answers.specs.Pick.{pick}
+use Rattle.answers.proofs.PickLaws.{failed, held}
+use Rattle.fields.proofs.RangesLaws.{within-sum}
 use Rattle.elf.specs.Survey.{segmentStep}
 use Rattle.elf.proofs.survey.segment_step.Statement.{statement}
 use Rattle.elf.proofs.survey.segment_step.Tie as tie
@@ -32,7 +32,7 @@ returns-3 c =
 returns-4 : tie.Need-returns-4
 unfolding segmentStep pick
 returns-4 c =
-    let at-has-room = c .before .before .before in
+    let at-has-room = c .before .before in
     let at-if2 = at-has-room .before in
     let at-within = at-if2 .before in
     let at-if1 = at-within .before in
@@ -40,40 +40,9 @@ returns-4 c =
     rw (
       held (at-sum-fits .sum-fits .ensures) (at-if1 .if1 .left),
       held (at-within .within .ensures) (at-if2 .if2 .left),
-      held (at-has-room .has-room .ensures) (c .before .before .if3 .left),
-      failed (c .before .sum-fits2 .ensures) (c .if4 .taken),
-    )
-
-add-t15 : tie.Need-add-t15
-add-t15 c = omega (arith, within-sum _ _ _ (held (c .before .sum-fits2 .ensures) (c .if4 .left)))
-
-returns-5 : tie.Need-returns-5
-unfolding segmentStep pick
-returns-5 c =
-    let at-has-room = c .before .before .before in
-    let at-if2 = at-has-room .before in
-    let at-within = at-if2 .before in
-    let at-if1 = at-within .before in
-    let at-sum-fits = at-if1 .before in
-    rw (
-      held (at-sum-fits .sum-fits .ensures) (at-if1 .if1 .left),
-      held (at-within .within .ensures) (at-if2 .if2 .left),
-      held (at-has-room .has-room .ensures) (c .before .before .if3 .left),
-      held (c .before .sum-fits2 .ensures) (c .if4 .left),
+      held (at-has-room .has-room .ensures) (c .before .if3 .left),
+      c .end-step .ensures,
     )
 
 pub segment-step-spec : {M : Type 1} → statement M
-segment-step-spec =
-    tie.close
-    (tie.spec
-    (λ c κs. search needs)
-    returns
-    add-at
-    (λ c κs. search needs)
-    returns-2
-    (λ c κs. search needs)
-    returns-3
-    (λ c κs. search needs)
-    returns-4
-    add-t15
-    returns-5)
+segment-step-spec = tie.close (tie.spec (λ c κs. search needs) returns add-at (λ c κs. search needs) returns-2 (λ c κs. search needs) returns-3 (λ c κs. search needs) returns-4)
