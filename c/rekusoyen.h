@@ -52,6 +52,7 @@ enum rekusoyen_answer {
     REKUSOYEN_READ_NOTE_HEADER = 11,               /* a note passes the image */
     REKUSOYEN_INVALID_PVH_NOTE = 12,               /* the PVH note's descriptor has fewer than 4 bytes */
     REKUSOYEN_MEMORY_OVERFLOW = 13,                /* a segment's address + p_memsz is 2^64 or more */
+    REKUSOYEN_INVALID_PROGRAM_HEADER_FILE_SIZE = 14, /* a segment's p_filesz is above its p_memsz */
 
     /* bzImage */
     REKUSOYEN_INVALID_BZ_IMAGE = 21,               /* not a bzImage of protocol 2.00 or later that is loaded high */
@@ -100,6 +101,7 @@ enum rekusoyen_answer {
     ROW(READ_NOTE_HEADER, "The image ends inside a note.") \
     ROW(INVALID_PVH_NOTE, "The descriptor of the PVH note is shorter than an address.") \
     ROW(MEMORY_OVERFLOW, "The end of a segment does not fit into 64 bits.") \
+    ROW(INVALID_PROGRAM_HEADER_FILE_SIZE, "A segment has more bytes in the file than in memory.") \
     ROW(INVALID_BZ_IMAGE, "The image has no bzImage's setup header.") \
     ROW(UNDERFLOW, "The image is shorter than its setup sectors.") \
     ROW(INVALID_KERNEL_START_ADDRESS, "The kernel's own load address is below the start of high memory.") \
@@ -189,17 +191,18 @@ static inline const char *rekusoyen_answer_sentence(uint32_t answer)
  * rekusoyen_elf_note says of its p_filesz bytes at p_offset. All others are skipped. Without a note header PVH is ignored.
  *
  * Refusals:
- *   NO_ROOM                         out_len is not REKUSOYEN_ELF_LOAD_OUT
- *   SLICE_TOO_LONG                  image_len or guest_len is above REKUSOYEN_LONGEST_SLICE
- *   READ_ELF_HEADER                 image_len is below 64
+ *   NO_ROOM                           out_len is not REKUSOYEN_ELF_LOAD_OUT
+ *   SLICE_TOO_LONG                    image_len or guest_len is above REKUSOYEN_LONGEST_SLICE
+ *   READ_ELF_HEADER                   image_len is below 64
  *   INVALID_ELF_MAGIC_NUMBER, BIG_ENDIAN_ELF_ON_LITTLE, INVALID_PROGRAM_HEADER_SIZE, INVALID_PROGRAM_HEADER_OFFSET
- *   INVALID_ENTRY_ADDRESS           highmem is given, and e_entry is below it
- *   OVERFLOW                        offset + e_entry is 2^64 or more
- *   READ_PROGRAM_HEADER             e_phnum is above 0, and the program headers pass the image
+ *   INVALID_ENTRY_ADDRESS             highmem is given, and e_entry is below it
+ *   OVERFLOW                          offset + e_entry is 2^64 or more
+ *   READ_PROGRAM_HEADER               e_phnum is above 0, and the program headers pass the image
  * and then of each program header in turn, of a loadable one that is not empty in both sizes:
- *   INVALID_PROGRAM_HEADER_ADDRESS  offset + p_paddr is 2^64 or more
- *   READ_KERNEL_IMAGE               p_filesz is above 0, and its bytes pass the image, or at their address guest memory
- *   MEMORY_OVERFLOW                 its address + p_memsz is 2^64 or more
+ *   INVALID_PROGRAM_HEADER_FILE_SIZE  p_filesz is above p_memsz
+ *   INVALID_PROGRAM_HEADER_ADDRESS    offset + p_paddr is 2^64 or more
+ *   READ_KERNEL_IMAGE                 p_filesz is above 0, and its bytes pass the image, or at their address guest memory
+ *   MEMORY_OVERFLOW                   its address + p_memsz is 2^64 or more
  * and of one with notes, where no offset is given: READ_NOTE_HEADER, OVERFLOW and INVALID_PVH_NOTE as of rekusoyen_elf_note.
  *
  * Leaves, accepted: in guest the bytes of every segment that is loaded, a later one over an earlier; in out the four values.

@@ -78,7 +78,7 @@ static const struct load loads[] = {
      REKUSOYEN_INVALID_PROGRAM_HEADER_ADDRESS, {0}, {{0}}},
     {"bytes past the image", {LOADS_16, {LOADABLE, CUT_NOTE, 0, 12, 12}, LOADS_40}, 3, 0, 0, 0, 64,
      REKUSOYEN_READ_KERNEL_IMAGE, {0}, {{0}}},
-    {"a size that would wrap into the image", {LOADS_16, {LOADABLE, TEXT, 0, TOP - 200, 12}, LOADS_40}, 3, 0, 0, 0, 64,
+    {"a size that would wrap into the image", {LOADS_16, {LOADABLE, TEXT, 0, TOP - 200, TOP - 200}, LOADS_40}, 3, 0, 0, 0, 64,
      REKUSOYEN_READ_KERNEL_IMAGE, {0}, {{0}}},
     {"bytes past guest memory", {LOADS_16, {LOADABLE, TEXT, 62, 3, 3}, LOADS_40}, 3, 0, 0, 0, 64,
      REKUSOYEN_READ_KERNEL_IMAGE, {0}, {{0}}},
@@ -91,6 +91,11 @@ static const struct load loads[] = {
      REKUSOYEN_MEMORY_OVERFLOW, {0}, {{0}}},
     {"memory without file bytes whose address does not fit", {LOADS_16, {LOADABLE, TEXT, TOP - 3, 0, TOP}, LOADS_40}, 3,
      REKUSOYEN_OFFSET_GIVEN, 4, 0, 64, REKUSOYEN_INVALID_PROGRAM_HEADER_ADDRESS, {0}, {{0}}},
+    {"more bytes in the file than in memory", {LOADS_16, {LOADABLE, TEXT, 24, 3, 2}, LOADS_40}, 3, 0, 0, 0, 64,
+     REKUSOYEN_INVALID_PROGRAM_HEADER_FILE_SIZE, {0}, {{0}}},
+    {"more bytes in the file than in memory, and an address that does not fit",
+     {LOADS_16, {LOADABLE, TEXT, TOP - 3, 1, 0}, LOADS_40}, 3, REKUSOYEN_OFFSET_GIVEN, 4, 0, 64,
+     REKUSOYEN_INVALID_PROGRAM_HEADER_FILE_SIZE, {0}, {{0}}},
     {"a note past the image", {LOADS_16, {NOTES, CUT_NOTE, 0, 1, 0}, LOADS_40}, 3, 0, 0, 0, 64,
      REKUSOYEN_READ_NOTE_HEADER, {0}, {{0}}},
     {"a note of a huge size", {LOADS_16, {NOTES, HUGE_NOTE, 0, 12, 0}, LOADS_40}, 3, 0, 0, 0, 64,
@@ -153,6 +158,8 @@ static void check_order(void)
     image.size = whole.size - 1;
     memcpy(image.bytes + header, whole.bytes + header, whole.size - header);
     put_number(&image, header + P_PADDR, 8, 17);
+    put_number(&image, header + P_MEMSZ, 8, 2);
+    check_next(&load, &image, REKUSOYEN_INVALID_PROGRAM_HEADER_FILE_SIZE);
     put_number(&image, header + P_MEMSZ, 8, TOP);
     check_next(&load, &image, REKUSOYEN_INVALID_PROGRAM_HEADER_ADDRESS);
     load.offset = 0;

@@ -57,6 +57,8 @@ refusals! {
     InvalidPvhNote = 12,
     /// The end of a segment does not fit into 64 bits.
     MemoryOverflow = 13,
+    /// A segment has more bytes in the file than in memory.
+    InvalidProgramHeaderFileSize = 14,
     /// The image has no bzImage's setup header.
     InvalidBzImage = 21,
     /// The image is shorter than its setup sectors.

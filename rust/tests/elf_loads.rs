@@ -171,6 +171,25 @@ fn a_refused_segment_leaves_nothing_written() {
 }
 
 #[test]
+fn more_bytes_in_the_file_than_in_memory_are_refused() {
+    let sized = |memory| plain().edited(|header| header.p_memsz = memory);
+    let written: &[(usize, &[u8])] = &[(16, b"abc")];
+    load(&sized(3).bytes(), 32, None, None).gives(16, 19, PvhEntryIgnored, written);
+    let error = Error::SeekProgramHeader;
+    assert_eq!(error.number(), Some(14));
+    load(&sized(2).bytes(), 32, None, None).is_refused(error);
+    // before all that is asked of its address and its bytes, and after the headers before it
+    let far = sized(2).edited(|header| header.p_paddr = u64::MAX);
+    load(&far.bytes(), 32, Some(1), None).is_refused(error);
+    load(&far.bytes(), 0, None, None).is_refused(error);
+    let after = ElfImage::entered_at(16)
+        .with(LOADABLE, 30, b"abc")
+        .with(LOADABLE, 16, b"def")
+        .edited(|header| header.p_memsz = 2);
+    load(&after.bytes(), 32, None, None).is_refused(Error::ReadKernelImage);
+}
+
+#[test]
 fn pvh_is_present_absent_or_ignored() {
     let entry = PvhEntryPresent(GuestAddress(0x100000));
     let other = note(b"GNU\0", 18, &[1, 2, 3, 4]);

@@ -29,7 +29,6 @@ fn errors_without_a_number() {
     for error in [
         elf::Error::Align,
         elf::Error::SeekElfStart,
-        elf::Error::SeekProgramHeader,
         elf::Error::SeekNoteHeader,
     ] {
         assert_eq!(
@@ -100,6 +99,10 @@ fn of_elf() -> Reached {
         (
             Refusal::MemoryOverflow,
             load(&edited(|i| i.headers[0].p_memsz = u64::MAX), None, None),
+        ),
+        (
+            Refusal::InvalidProgramHeaderFileSize,
+            load(&edited(|i| i.headers[0].p_memsz = 2), None, None),
         ),
     ]
 }

@@ -12,6 +12,7 @@ pub fn all() -> Vec<Case> {
         elf(),
         refused_later(),
         memory_alone(),
+        overfull(),
         notes(),
         bzimage(),
         lines(),
@@ -214,6 +215,57 @@ fn memory_alone() -> Vec<Case> {
             &[memory(last, 0)],
             None,
             "elf ok 16 0 pvh ignored, nothing changed",
+        ),
+    ]
+}
+
+/// A loadable segment with more bytes in the file than in memory is refused, before its address and its bytes are asked.
+fn overfull() -> Vec<Case> {
+    let case = |headers: &[Header], offset, told| {
+        let load = with_headers(headers, offset, &[]);
+        (Question::Elf(load), told)
+    };
+    let sizes = |file_size, memory_size| (LOADABLE, 0, 24, file_size, memory_size);
+    let last = u64::MAX;
+    vec![
+        case(
+            &[SMALL, sizes(3, 3)],
+            None,
+            "elf ok 16 27 pvh ignored, 16 to 26 changed",
+        ),
+        case(
+            &[SMALL, sizes(3, 2)],
+            None,
+            "elf refused 14, nothing changed",
+        ),
+        case(&[sizes(1, 0)], Some(4), "elf refused 14, nothing changed"),
+        // its address wraps, its bytes pass the image and guest memory
+        case(
+            &[SMALL, (LOADABLE, 0, last, 1, 0)],
+            Some(1),
+            "elf refused 14, nothing changed",
+        ),
+        case(
+            &[SMALL, (LOADABLE, 9, 99, last, last - 1)],
+            None,
+            "elf refused 14, nothing changed",
+        ),
+        // an earlier header is asked first
+        case(
+            &[(LOADABLE, 0, 99, 3, 3), sizes(3, 2)],
+            None,
+            "elf refused 10, nothing changed",
+        ),
+        // not asked of other types
+        case(
+            &[(6, 0, 24, 3, 2)],
+            None,
+            "elf ok 16 0 pvh ignored, nothing changed",
+        ),
+        case(
+            &[(NOTES, 3, 0, 20, 0)],
+            None,
+            "elf refused 11, nothing changed",
         ),
     ]
 }

@@ -80,6 +80,12 @@ pub fn departures() -> Vec<(&'static str, &'static str, &'static str, Load)> {
             "load 0, end 1, nothing written",
             smallest(&[(64, 1), (104, 1)], &[], 1),
         ),
+        (
+            "L8",
+            "a segment of 1 byte for address 0 with p_memsz 0, 1 guest byte",
+            "refused 14, nothing written",
+            smallest(&[(64, 1), (96, 1)], &[], 1),
+        ),
     ]
 }
 

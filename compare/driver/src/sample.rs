@@ -176,7 +176,7 @@ mod tests {
         let questions = questions_of_sample();
         let answers: Vec<Answer> = questions.iter().map(over_second::answer).collect();
         let numbers: BTreeSet<u8> = answers.iter().flat_map(Answer::numbers).collect();
-        let wanted: BTreeSet<u8> = (1..=13)
+        let wanted: BTreeSet<u8> = (1..=14)
             .chain(21..=24)
             .chain(31..=32)
             .chain(41..=51)

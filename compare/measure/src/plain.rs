@@ -44,6 +44,9 @@ pub fn load_elf(
         if u32_at(header, 0) != 1 || (size == 0 && memory == 0) {
             continue;
         }
+        if size > memory {
+            return Err(Refusal::InvalidProgramHeaderFileSize);
+        }
         let address = shift.checked_add(u64_at(header, 24));
         let address = address.ok_or(Refusal::InvalidProgramHeaderAddress)?;
         if size > 0 {

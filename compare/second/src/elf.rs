@@ -70,6 +70,9 @@ fn load_into(
     let mut pvh = Pvh::Ignored;
     for program_header in program_headers(image, &header)? {
         match program_header.kind {
+            TYPE_LOAD if rules.has(Departure::L8) && is_overfull(&program_header) => {
+                return Err(Refusal::InvalidProgramHeaderFileSize);
+            }
             TYPE_LOAD if program_header.file_size > 0 => {
                 let segment_end = load_segment(image, guest, offset, &program_header)?;
                 end = end.max(segment_end);
@@ -128,6 +131,11 @@ fn program_header(bytes: &[u8]) -> ProgramHeader {
         file_size: u64_at(bytes, 32),
         memory_size: u64_at(bytes, 40),
     }
+}
+
+/// ELF says that the bytes in the file are never more than those in memory.
+fn is_overfull(segment: &ProgramHeader) -> bool {
+    segment.file_size > segment.memory_size
 }
 
 /// Copies one segment and answers where it ends in guest memory.
@@ -341,6 +349,34 @@ mod tests {
         // empty in both sizes: passed over, even where its address wraps
         image[104..112].fill(0);
         assert_eq!(ask(&image, Some(1)), loaded(17, 0, Pvh::Ignored));
+    }
+
+    #[test]
+    fn more_bytes_in_the_file_than_in_memory_are_refused_before_all_else() {
+        let rules = Rules::of(&[Departure::L8]);
+        let refused = Err(Refusal::InvalidProgramHeaderFileSize);
+        let mut image = small();
+        image[104] = 2;
+        assert_eq!(load(rules, &image, &mut [0; 32], None, None), refused);
+        assert_eq!(
+            load(PUBLISHED, &image, &mut [0; 32], None, None),
+            loaded(16, 18, Pvh::Ignored)
+        );
+        // where its bytes or its address would be refused, too
+        put(&mut image, 88, &u64::MAX.to_le_bytes());
+        image[72..80].fill(0xff);
+        for offset in [None, Some(1)] {
+            assert_eq!(load(rules, &image, &mut [], offset, None), refused);
+        }
+        // as many are good, and other types may be of any sizes
+        image = small();
+        image[104] = 3;
+        assert_eq!(
+            load(rules, &image, &mut [0; 32], None, None),
+            loaded(16, 19, Pvh::Ignored)
+        );
+        (image[64], image[104]) = (2, 2);
+        assert!(load(rules, &image, &mut [0; 32], None, None).is_ok());
     }
 
     #[test]

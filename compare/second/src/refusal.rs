@@ -17,6 +17,7 @@ pub enum Refusal {
     ReadNoteHeader = 11,
     InvalidPvhNote = 12,
     MemoryOverflow = 13,
+    InvalidProgramHeaderFileSize = 14,
     InvalidBzImage = 21,
     Underflow = 22,
     InvalidKernelStartAddress = 23,

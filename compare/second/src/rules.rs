@@ -7,16 +7,19 @@ pub enum Departure {
     L13,
     /// A loadable segment of memory alone, without file bytes, counts for the kernel's end.
     L3,
+    /// A loadable segment with more bytes in the file than in memory is refused.
+    L8,
 }
 
 impl Departure {
     /// Those that the proved code has. Each request adds its own when it lands.
-    pub const LANDED: &'static [Departure] = &[Departure::L13, Departure::L3];
+    pub const LANDED: &'static [Departure] = &[Departure::L13, Departure::L3, Departure::L8];
 
     pub fn name(self) -> &'static str {
         match self {
             Departure::L13 => "L13",
             Departure::L3 => "L3",
+            Departure::L8 => "L8",
         }
     }
 }

@@ -17,6 +17,7 @@ numberOf refusal.ReadKernelImage = 10
 numberOf refusal.ReadNoteHeader = 11
 numberOf refusal.InvalidPvhNote = 12
 numberOf refusal.MemoryOverflow = 13
+numberOf refusal.InvalidProgramHeaderFileSize = 14
 numberOf refusal.InvalidBzImage = 21
 numberOf refusal.Underflow = 22
 numberOf refusal.InvalidKernelStartAddress = 23

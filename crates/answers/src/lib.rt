@@ -19,6 +19,7 @@ pub enum Refusal {
     ReadNoteHeader,
     InvalidPvhNote,
     MemoryOverflow,
+    InvalidProgramHeaderFileSize,
     // bzImage
     InvalidBzImage,
     Underflow,
@@ -64,6 +65,7 @@ pub fn number(refusal: Refusal) -> u32
         Refusal::ReadNoteHeader => 11,
         Refusal::InvalidPvhNote => 12,
         Refusal::MemoryOverflow => 13,
+        Refusal::InvalidProgramHeaderFileSize => 14,
         Refusal::InvalidBzImage => 21,
         Refusal::Underflow => 22,
         Refusal::InvalidKernelStartAddress => 23,

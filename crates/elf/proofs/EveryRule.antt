@@ -6,6 +6,7 @@ use mathlib.Core.Bool.{Bool, true, false}
 use mathlib.Core.List.{List}
 use native.Mathlib.Omega.{arith}
 use borrow.Author.Tests.{eqb-true, eqb-false}
+use lib.Dec.{leb}
 use lib.ListN.{length}
 use Rattle.answers.specs.Pick.{pick}
 use Rattle.answers.specs.declared.Refusal.{Refusal}
@@ -16,7 +17,7 @@ use Rattle.guest.specs.declared.Given.{Given}
 use Rattle.guest.specs.declared.Memory.{Memory}
 use Rattle.elf.specs.ProgramHeaders.{headerOf}
 use Rattle.elf.specs.Notes.{entryOf}
-use Rattle.elf.specs.Survey.{endStep, segmentStep, memoryStep, loadStep, saidStep, noteStep, stepOf}
+use Rattle.elf.specs.Survey.{endStep, segmentStep, memoryStep, kindStep, loadStep, saidStep, noteStep, stepOf}
 use Rattle.elf.specs.Pouring.{planOf}
 use Rattle.elf.specs.Verdict.{Passes, passes, Verdict, accepted, Accepted, is-accepted}
 use Rattle.elf.specs.Rules.{SegmentRules, SegmentFits, MemoryRules, NotesSay, notes-say, HeaderRules, Rules}
@@ -95,22 +96,31 @@ module _ (image : List ℕ) (m : Memory) (offset : Given) (h : ProgramHeader) wh
   abbrev shift : ℕ
   shift = amountOf offset
 
+  abbrev Sized : Type 0
+  Sized = leb (h .«p_filesz») (h .«p_memsz») ≡ true
+
   -- the rules of a program header, by its type
-  loadable : h .«p_type» ≡ 1 → SegmentFits (length image) m shift h → (h .«p_type» ≡ 1 → h .«p_filesz» ≡ 0 → 0 < h .«p_memsz» → MemoryRules shift h) → Rule
-  loadable is-1 file memory = record { segment = file; memory = memory; notes = λ is-4 _. absurd (omega arith) }
+  loadable : h .«p_type» ≡ 1 → Sized → SegmentFits (length image) m shift h
+      → (h .«p_type» ≡ 1 → h .«p_filesz» ≡ 0 → 0 < h .«p_memsz» → MemoryRules shift h) → Rule
+  loadable is-1 sized file memory = record { sizes = λ _. sized; segment = file; memory = memory; notes = λ is-4 _. absurd (omega arith) }
 
   other-type : (h .«p_type» ≡ 1 → ⊥) → (h .«p_type» ≡ 4 → isGiven offset ≡ false → NotesSay (entryOf image (h .«p_offset») (h .«p_filesz») .answer)) → Rule
-  other-type not-1 notes = record { segment = λ is-1 _. absurd (not-1 is-1); memory = λ is-1 _ _. absurd (not-1 is-1); notes = notes }
+  other-type not-1 notes =
+      record { sizes = λ is-1. absurd (not-1 is-1); segment = λ is-1 _. absurd (not-1 is-1); memory = λ is-1 _ _. absurd (not-1 is-1); notes = notes }
+
+  kind-if : h .«p_type» ≡ 1 → Sized → If Rule (kindStep (length image) m shift h)
+  unfolding kindStep
+  kind-if is-1 sized =
+      pick-with (If Rule) _
+      (λ no-file. let none = eqb-true (h .«p_filesz») 0 no-file in pick-with (If Rule) _
+      (λ no-memory. let empty = eqb-true (h .«p_memsz») 0 no-memory in passed (loadable is-1 sized (λ _ some. absurd (omega arith)) (λ _ _ some. absurd (omega arith))))
+      (λ _. if-as (λ rules. loadable is-1 sized (λ _ some. absurd (omega arith)) (λ _ _ _. rules)) (memory-if shift h)))
+      (λ file. let some = eqb-false (h .«p_filesz») 0 file in
+      if-as (λ rules. loadable is-1 sized (λ _ _. rules) (λ _ none _. absurd (some none))) (segment-if (length image) m shift h))
 
   load-if : h .«p_type» ≡ 1 → If Rule (loadStep (length image) m shift h)
   unfolding loadStep
-  load-if is-1 =
-      pick-with (If Rule) _
-      (λ no-file. let none = eqb-true (h .«p_filesz») 0 no-file in pick-with (If Rule) _
-      (λ no-memory. let empty = eqb-true (h .«p_memsz») 0 no-memory in passed (loadable is-1 (λ _ some. absurd (omega arith)) (λ _ _ some. absurd (omega arith))))
-      (λ _. if-as (λ rules. loadable is-1 (λ _ some. absurd (omega arith)) (λ _ _ _. rules)) (memory-if shift h)))
-      (λ file. let some = eqb-false (h .«p_filesz») 0 file in
-      if-as (λ rules. loadable is-1 (λ _ _. rules) (λ _ none _. absurd (some none))) (segment-if (length image) m shift h))
+  load-if is-1 = if-tested _ _ _ (λ sized. kind-if is-1 sized)
 
   note-if : (h .«p_type» ≡ 1 → ⊥) → If Rule (noteStep image offset h)
   unfolding noteStep
@@ -128,14 +138,22 @@ module _ (image : List ℕ) (m : Memory) (offset : Given) (h : ProgramHeader) wh
   passes-rules : Passes (stepOf image m offset h) → Rule
   passes-rules = if-passed step-if
 
-  rules-pass : Rule → Passes (stepOf image m offset h)
-  unfolding stepOf loadStep noteStep
-  rules-pass rule =
+  if-kind : Rule → h .«p_type» ≡ 1 → Passes (kindStep (length image) m shift h)
+  unfolding kindStep
+  if-kind rule is-1 =
       pick-with Passes _
-      (λ one. let is-1 = eqb-true (h .«p_type») 1 one in pick-with Passes _
       (λ no-file. pick-with Passes _ (λ _. passes)
       (λ memory. if-memory shift h (rule .memory is-1 (eqb-true (h .«p_filesz») 0 no-file) (positive (h .«p_memsz») (eqb-false (h .«p_memsz») 0 memory)))))
-      (λ file. if-segment (length image) m shift h (rule .segment is-1 (positive (h .«p_filesz») (eqb-false (h .«p_filesz») 0 file)))))
+      (λ file. if-segment (length image) m shift h (rule .segment is-1 (positive (h .«p_filesz») (eqb-false (h .«p_filesz») 0 file))))
+
+  if-load : Rule → h .«p_type» ≡ 1 → Passes (loadStep (length image) m shift h)
+  unfolding loadStep pick
+  if-load rule is-1 = rw (rule .sizes is-1) (if-kind rule is-1)
+
+  rules-pass : Rule → Passes (stepOf image m offset h)
+  unfolding stepOf noteStep
+  rules-pass rule =
+      pick-with Passes _ (λ one. if-load rule (eqb-true (h .«p_type») 1 one))
       (λ _. pick-with Passes _
       (λ four. pick-with Passes _ (λ _. passes) (λ none. if-said (rule .notes (eqb-true (h .«p_type») 4 four) none)))
       (λ _. passes))

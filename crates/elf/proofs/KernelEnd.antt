@@ -17,7 +17,7 @@ use Rattle.guest.specs.declared.GuestAddress.{GuestAddress}
 use Rattle.guest.specs.declared.Memory.{Memory}
 use Rattle.elf.specs.Header.{e-phnum}
 use Rattle.elf.specs.ProgramHeaders.{headerOf}
-use Rattle.elf.specs.Survey.{endStep, segmentStep, memoryStep, loadStep, stepOf, advanced, blank, afterStep, surveyFrom, loadAddress, surveyOf}
+use Rattle.elf.specs.Survey.{endStep, segmentStep, memoryStep, kindStep, loadStep, stepOf, advanced, blank, afterStep, surveyFrom, loadAddress, surveyOf}
 use Rattle.elf.specs.Load.{LoadSays}
 use Rattle.elf.specs.Verdict.{stepAt, Accepted, is-accepted}
 use Rattle.elf.specs.declared.KernelLoaderResult.{KernelLoaderResult}
@@ -43,16 +43,18 @@ module _ (image : List ℕ) (m : Memory) (offset : Given) (h : ProgramHeader) (s
   endOf = record { 0 = amountOf offset + h .«p_paddr» .0 + h .«p_memsz» }
 
   load-ends : EndsOrStops endOf (loadStep (length image) m (amountOf offset) h)
-  unfolding loadStep segmentStep memoryStep endStep
+  unfolding loadStep kindStep segmentStep memoryStep endStep
   load-ends =
       pick-with (EndsOrStops endOf) _
+      (λ _. pick-with (EndsOrStops endOf) _
       (λ _. pick-with (EndsOrStops endOf) _ (λ none. let zero-size = eqb-true (h .«p_memsz») 0 none in absurd (omega arith))
       (λ _. pick-with (EndsOrStops endOf) _ (λ _. pick-with (EndsOrStops endOf) _ (λ _. ends) (λ _. stops)) (λ _. stops)))
       (λ _. pick-with (EndsOrStops endOf) _
       (λ _. pick-with (EndsOrStops endOf) _
       (λ _. pick-with (EndsOrStops endOf) _ (λ _. pick-with (EndsOrStops endOf) _ (λ _. ends) (λ _. stops)) (λ _. stops))
       (λ _. stops))
-      (λ _. stops))
+      (λ _. stops)))
+      (λ _. stops)
 
   step-ends : h .«p_type» ≡ 1 → EndsOrStops endOf (stepOf image m offset h)
   unfolding stepOf pick

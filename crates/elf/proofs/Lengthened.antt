@@ -28,7 +28,7 @@ use Rattle.guest.specs.declared.Memory.{Memory}
 use Rattle.guest.proofs.LoadingLaws.{LiftPlan, behind-keeps}
 use Rattle.elf.specs.Header.{headerSize, programHeaderSize, magic, e-phoff, e-phnum, standWithin, lengthTests, fileTests, entryTests, standTests, fieldTests, tests}
 use Rattle.elf.specs.ProgramHeaders.{headerPlace, headerAt, headerOf, HeadersStand}
-use Rattle.elf.specs.Survey.{segmentStep, loadStep, saidStep, noteStep, stepOf, advanced, blank, afterStep, surveyFrom, loadAddress, surveyOf}
+use Rattle.elf.specs.Survey.{segmentStep, kindStep, loadStep, saidStep, noteStep, stepOf, advanced, blank, afterStep, surveyFrom, loadAddress, surveyOf}
 use Rattle.elf.specs.Pouring.{segmentStream, streamFrom, wholeStream, ifLoaded, surveyPlan, planOf}
 use Rattle.elf.specs.Verdict.{Accepted, is-accepted}
 use Rattle.elf.specs.Rules.{SegmentFits}
@@ -130,9 +130,14 @@ module _ (s t : List ℕ) (Lifts : Refusal → Type 0) (lifts : (r : Refusal) �
         (λ _. pick-grows (LiftStep Lifts) _ _ (more-memory .rooms _ _) (λ _. same) (lift-step lifts-room)))
         (λ _. same)
 
+    kind-longer : (shift : ℕ) (h : ProgramHeader) → Keeps (LiftStep Lifts) (kindStep (length s) m shift h) (kindStep (length (s ++ t)) m' shift h)
+    unfolding kindStep
+    kind-longer shift h = pick-same (LiftStep Lifts) _ _ refl (λ _. same) (λ _. segment-longer shift h)
+
+    -- the refusal of a file size above the memory size never lifts
     load-longer : (shift : ℕ) (h : ProgramHeader) → Keeps (LiftStep Lifts) (loadStep (length s) m shift h) (loadStep (length (s ++ t)) m' shift h)
     unfolding loadStep
-    load-longer shift h = pick-same (LiftStep Lifts) _ _ refl (λ _. same) (λ _. segment-longer shift h)
+    load-longer shift h = pick-same (LiftStep Lifts) _ _ refl (λ _. kind-longer shift h) (λ _. same)
 
     note-longer : (h : ProgramHeader) → Keeps (LiftStep Lifts) (noteStep s offset h) (noteStep (s ++ t) offset h)
     unfolding noteStep

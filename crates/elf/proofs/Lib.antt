@@ -13,4 +13,5 @@ pub mod NotesLengthened
 pub mod Lengthened
 pub mod MoreRoom
 pub mod KernelEnd
+pub mod FileSizeStays
 pub mod Outcomes

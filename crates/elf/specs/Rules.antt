@@ -3,6 +3,7 @@ use Prim.Native.Nat.{ℕ, _+_, _<_}
 use mathlib.Core.Path.{_≡_}
 use mathlib.Core.Bool.{true, false}
 use mathlib.Core.List.{List}
+use lib.Dec.{leb}
 use lib.ListN.{length}
 use Rattle.answers.specs.Tests.{AllHold}
 use Rattle.fields.specs.Ranges.{liesWithin, fits64}
@@ -40,6 +41,7 @@ pub data NotesSay : NoteAnswer → Type 0 where
 
 -- of any program header
 pub record HeaderRules (image : List ℕ) (m : Memory) (offset : Given) (h : ProgramHeader) : Type 0 where
+  pub sizes : h .«p_type» ≡ 1 → leb (h .«p_filesz») (h .«p_memsz») ≡ true
   pub segment : SegmentFits (length image) m (amountOf offset) h
   pub memory : h .«p_type» ≡ 1 → h .«p_filesz» ≡ 0 → 0 < h .«p_memsz» → MemoryRules (amountOf offset) h
   pub notes : h .«p_type» ≡ 4 → isGiven offset ≡ false → NotesSay (entryOf image (h .«p_offset») (h .«p_filesz») .answer)

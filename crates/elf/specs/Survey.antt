@@ -1,7 +1,7 @@
 -- The survey of the program headers, one after the other, up to the first that refuses.
 use Prim.Native.Nat.{ℕ, zero, suc, _+_, max}
 use mathlib.Core.List.{List}
-use lib.Dec.{eqb}
+use lib.Dec.{leb, eqb}
 use lib.ListN.{length}
 use Rattle.answers.specs.Pick.{pick}
 use Rattle.answers.specs.declared.Refusal.the-variants as refusal
@@ -45,10 +45,15 @@ unfoldable pub memoryStep : ℕ → ProgramHeader → Step
 memoryStep shift h =
     pick (fits64 shift (h .«p_paddr» .0)) (endStep (shift + h .«p_paddr» .0) (h .«p_memsz»)) (Stop refusal.InvalidProgramHeaderAddress)
 
--- a loadable segment: with file bytes, of memory alone, or empty in both sizes and skipped
+-- a loadable segment by its kind: with file bytes, of memory alone, or empty in both sizes and skipped
+unfoldable pub kindStep : ℕ → Memory → ℕ → ProgramHeader → Step
+kindStep imageLength m shift h =
+    pick (eqb (h .«p_filesz») 0) (pick (eqb (h .«p_memsz») 0) (Pass effect.Nothing) (memoryStep shift h)) (segmentStep imageLength m shift h)
+
+-- a loadable segment: its file size never exceeds its memory size
 unfoldable pub loadStep : ℕ → Memory → ℕ → ProgramHeader → Step
 loadStep imageLength m shift h =
-    pick (eqb (h .«p_filesz») 0) (pick (eqb (h .«p_memsz») 0) (Pass effect.Nothing) (memoryStep shift h)) (segmentStep imageLength m shift h)
+    pick (leb (h .«p_filesz») (h .«p_memsz»)) (kindStep imageLength m shift h) (Stop refusal.InvalidProgramHeaderFileSize)
 
 -- what the notes say, as a step
 abbrev pub saidStep : NoteAnswer → Step

@@ -12,7 +12,7 @@
 ghost use mathlib.Core.Path.{_≡_};
 ghost use Prim.Native.Nat.{max};
 ghost use Rattle.elf.specs.ProgramHeaders.{HeadersStand};
-ghost use Rattle.elf.specs.Survey.{endStep, segmentStep, memoryStep, loadStep, noteStep, stepOf, advanced, blank, surveyFrom};
+ghost use Rattle.elf.specs.Survey.{endStep, segmentStep, memoryStep, kindStep, loadStep, noteStep, stepOf, advanced, blank, surveyFrom};
 ghost use Rattle.elf.specs.Pouring.{planOf};
 use crate::Answer;
 use crate::KernelLoaderResult;
@@ -84,9 +84,9 @@ fn memory_step(shift: u64, h: ProgramHeader) -> Step
     end_step(shift + p_paddr, h.p_memsz)
 }
 
-// A loadable segment.
-fn load_step(image_len: u64, memory: Memory, shift: u64, h: ProgramHeader) -> Step
-    ensures { λ r. ⌜ r ≡ loadStep «image_len» memory shift h ⌝ }
+// A loadable segment by its kind: with file bytes, of memory alone, or empty.
+fn kind_step(image_len: u64, memory: Memory, shift: u64, h: ProgramHeader) -> Step
+    ensures { λ r. ⌜ r ≡ kindStep «image_len» memory shift h ⌝ }
 {
     if h.p_filesz == 0 {
         if h.p_memsz == 0 {
@@ -95,6 +95,16 @@ fn load_step(image_len: u64, memory: Memory, shift: u64, h: ProgramHeader) -> St
         return memory_step(shift, h);
     }
     segment_step(image_len, memory, shift, h)
+}
+
+// A loadable segment. Its file size never exceeds its memory size.
+fn load_step(image_len: u64, memory: Memory, shift: u64, h: ProgramHeader) -> Step
+    ensures { λ r. ⌜ r ≡ loadStep «image_len» memory shift h ⌝ }
+{
+    if h.p_memsz < h.p_filesz {
+        return Step::Stop(Refusal::InvalidProgramHeaderFileSize);
+    }
+    kind_step(image_len, memory, shift, h)
 }
 
 // A note header. With an offset it is not walked.

@@ -132,6 +132,10 @@ pub fn segment_details(segment: &Segment, image: &[u8], asked: &Load) -> String 
                 format!("load, {bytes} to guest {address:#x}, memory to {end:#x}")
             }
         }
+        Some(Problem::Overfull) => format!(
+            "load, {bytes}: they are more than its {} bytes of memory",
+            segment.p_memsz
+        ),
         Some(Problem::Address) => format!(
             "load, {bytes}: the offset {:#x} and p_paddr {:#x} add up to 2^64 or more",
             asked.offset.map_or(0, |offset| offset.0),

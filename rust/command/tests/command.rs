@@ -336,6 +336,12 @@ fn a_refused_elf_load_says_what_it_was_about() {
         "refused 13 MemoryOverflow\n\
          segment 0: load, 3 bytes at 0x78 to guest 0x10: with its 18446744073709551615 bytes of memory it ends at 2^64 or more\n",
     );
+    refused(
+        &["load"],
+        &edited(104, &[2]),
+        "refused 14 InvalidProgramHeaderFileSize\n\
+         segment 0: load, 3 bytes at 0x78: they are more than its 2 bytes of memory\n",
+    );
 }
 
 #[test]

@@ -44,7 +44,7 @@ pub enum Error {
     SeekKernelStart,
     /// Unable to seek to ELF start.
     SeekElfStart,
-    /// Unable to seek to program header. Never given.
+    /// Unable to seek to program header: one says that a segment has more bytes in the file than in memory.
     SeekProgramHeader,
     /// Unable to seek to note header. Never given.
     SeekNoteHeader,

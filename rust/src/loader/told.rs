@@ -54,6 +54,10 @@ const BY_ELF: &Rows = &[
     ),
     (Refusal::MemoryOverflow, Error::MemoryOverflow),
     (
+        Refusal::InvalidProgramHeaderFileSize,
+        Error::Elf(elf::Error::SeekProgramHeader),
+    ),
+    (
         Refusal::SliceTooLong,
         Error::Elf(elf::Error::SeekKernelStart),
     ),

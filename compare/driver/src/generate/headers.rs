@@ -61,10 +61,11 @@ pub fn question(rng: &mut Rng) -> Load {
 
 /// One program header; most are good, so that others come after them.
 fn fields(rng: &mut Rng, plan: &Plan) -> Fields {
-    match rng.below(10) {
+    match rng.below(11) {
         0 => refused(rng, plan),
         1 => cut_note(plan),
         2 | 3 => memory_alone(rng, plan),
+        4 => overfull(rng, plan),
         _ => good(rng, plan),
     }
 }
@@ -106,6 +107,19 @@ fn memory_alone(rng: &mut Rng, plan: &Plan) -> Fields {
     };
     let offset = rng.pick(&[plan.text, plan.image, u64::MAX]);
     (LOADABLE, [offset, address, 0, memory])
+}
+
+/// A segment with more bytes in the file than in memory, or just not: good otherwise, or at a limit too; and now and then of another
+/// type, of which it is not asked.
+fn overfull(rng: &mut Rng, plan: &Plan) -> Fields {
+    let segment = match rng.below(3) {
+        0 => refused(rng, plan),
+        _ => good(rng, plan),
+    };
+    let (_, [offset, address, size, _]) = segment;
+    let memory = rng.pick(&[0, 1, size - 1, size - 1, size]);
+    let kind = rng.pick(&[LOADABLE, LOADABLE, LOADABLE, 6]);
+    (kind, [offset, address, size, memory])
 }
 
 /// A note header whose note passes the image.

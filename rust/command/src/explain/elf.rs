@@ -109,6 +109,7 @@ fn by_segment(
         Refusal::InvalidProgramHeaderAddress => problem == Problem::Address,
         Refusal::ReadKernelImage => matches!(problem, Problem::Image | Problem::Guest(_)),
         Refusal::MemoryOverflow => problem == Problem::Memory,
+        Refusal::InvalidProgramHeaderFileSize => problem == Problem::Overfull,
         _ => false,
     };
     let about = format!("segment {i}: {}", segment_details(segment, image, asked));
@@ -133,6 +134,8 @@ fn needed(image: &[u8], asked: &Load) -> u128 {
 /// Why a loadable segment is refused.
 #[derive(Clone, Copy, Debug, PartialEq)]
 pub enum Problem {
+    /// It has more bytes in the file than in memory.
+    Overfull,
     /// The offset and its address add up to 2^64 or more.
     Address,
     /// Its bytes pass the image.
@@ -146,6 +149,9 @@ pub enum Problem {
 impl Problem {
     /// The first that there is, in the order in which they are asked.
     pub fn of(segment: &Segment, image: &[u8], asked: &Load) -> Option<Problem> {
+        if segment.p_filesz > segment.p_memsz {
+            return Some(Problem::Overfull);
+        }
         let has_bytes = segment.p_filesz > 0;
         if !has_bytes && segment.p_memsz == 0 {
             return None;

@@ -312,7 +312,7 @@ mod tests {
             advice_is_good(&image, &asked, &explained);
         }
         let numbers: Vec<u32> = reached.keys().copied().collect();
-        let wanted: Vec<u32> = (1..=13).chain(21..=24).chain(31..=32).collect();
+        let wanted: Vec<u32> = (1..=14).chain(21..=24).chain(31..=32).collect();
         assert_eq!(numbers, wanted, "{reached:?}");
     }
 
