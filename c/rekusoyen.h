@@ -147,7 +147,7 @@ static inline const char *rekusoyen_answer_sentence(uint32_t answer)
 
 /*
  * The stack that a call uses at the most, beside what memcpy and memset themselves use: a load of an image or a note walk, and
- * a call on a line. Measured on x86-64, each uses less than 512 bytes.
+ * a call on a line. Measured on x86-64, each uses less than 640 bytes.
  */
 #define REKUSOYEN_LOAD_STACK_SIZE ((size_t)1024)
 #define REKUSOYEN_LINE_STACK_SIZE ((size_t)4096)
@@ -164,8 +164,8 @@ static inline const char *rekusoyen_answer_sentence(uint32_t answer)
 #define REKUSOYEN_PVH_PRESENT 2u     /* the notes have one, and its address is told */
 
 /* How many places the lists of values have, and how many bytes the setup header. */
-#define REKUSOYEN_ELF_LOAD_OUT 4
-#define REKUSOYEN_ELF_NOTE_OUT 3
+#define REKUSOYEN_ELF_LOAD_OUT 6
+#define REKUSOYEN_ELF_NOTE_OUT 5
 #define REKUSOYEN_BZIMAGE_LOAD_OUT 2
 #define REKUSOYEN_SETUP_HEADER_SIZE 123
 
@@ -182,13 +182,16 @@ static inline const char *rekusoyen_answer_sentence(uint32_t answer)
  *   highmem  where given, the image's e_entry, before the offset is added, must not lie below it
  *   out      REKUSOYEN_ELF_LOAD_OUT places: the load address (e_entry, plus the offset); the kernel's end (the greatest
  *            address + p_memsz of the loadable segments, 0 without any; it may lie past guest memory); the PVH code;
- *            and the PVH address or 0
+ *            the PVH address; and the place in the image and the size of the descriptor that it was read from. The last three are
+ *            0 where PVH is not present or ignored
  *
  * Program headers are taken in file order. One of type 1 (loadable) with p_filesz above 0 has its p_filesz bytes copied to
  * its address, p_paddr plus the offset; guest memory after them, up to p_memsz, is not cleared. One of type 1 with p_filesz 0 and
  * p_memsz above 0 is memory alone: it counts for the kernel's end, nothing is copied, and guest memory need not have it. One that
- * is empty in both sizes is skipped. One of type 4 (notes) sets PVH anew: to ignored where an offset is given, else to what
- * rekusoyen_elf_note says of its p_filesz bytes at p_offset. All others are skipped. Without a note header PVH is ignored.
+ * is empty in both sizes is skipped. One of type 4 (notes) is walked by rekusoyen_elf_note, its p_filesz bytes at p_offset, unless an
+ * offset is given. The first PVH entry found holds: note headers behind it are still walked, and may refuse the load, but change
+ * nothing else. Where none has an entry PVH is not present; without a note header, or with an offset, it is ignored. All others are
+ * skipped.
  *
  * Refusals:
  *   NO_ROOM                           out_len is not REKUSOYEN_ELF_LOAD_OUT
@@ -205,7 +208,7 @@ static inline const char *rekusoyen_answer_sentence(uint32_t answer)
  *   MEMORY_OVERFLOW                   its address + p_memsz is 2^64 or more
  * and of one with notes, where no offset is given: READ_NOTE_HEADER, OVERFLOW and INVALID_PVH_NOTE as of rekusoyen_elf_note.
  *
- * Leaves, accepted: in guest the bytes of every segment that is loaded, a later one over an earlier; in out the four values.
+ * Leaves, accepted: in guest the bytes of every segment that is loaded, a later one over an earlier; in out the six values.
  * Leaves, refused: out and guest as they were. Nothing is written before every program header has passed.
  */
 uint32_t rekusoyen_elf_load(
@@ -220,8 +223,9 @@ uint32_t rekusoyen_elf_load(
  *   image     the whole file
  *   p_offset  where in the image the notes begin
  *   p_filesz  their size: a note that begins within it is read, as far as the image goes
- *   out       REKUSOYEN_ELF_NOTE_OUT places: the PVH code (not present or present); the PVH address or 0; and how many note
- *             headers were read, at most one for each twelve bytes begun of p_filesz
+ *   out       REKUSOYEN_ELF_NOTE_OUT places: the PVH code (not present or present); the PVH address; how many note headers were
+ *             read, at most one for each twelve bytes begun of p_filesz; and the place in the image and the size of the
+ *             descriptor found, as its note header has it. Address, place and size are 0 where PVH is not present
  *
  * Refusals:
  *   NO_ROOM           out_len is not REKUSOYEN_ELF_NOTE_OUT
@@ -233,7 +237,7 @@ uint32_t rekusoyen_elf_load(
  *   INVALID_PVH_NOTE  its descriptor size is below 4
  *   READ_NOTE_HEADER  the first 4 bytes of its descriptor pass the image
  *
- * Leaves, accepted: in out the three values. Leaves, refused: out as it was.
+ * Leaves, accepted: in out the five values. Leaves, refused: out as it was.
  */
 uint32_t rekusoyen_elf_note(
     const uint8_t *image, size_t image_len,

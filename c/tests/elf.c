@@ -24,13 +24,14 @@ struct load {
 };
 
 /* The bytes that the program headers below speak of: some to load, and notes. */
-enum { TEXT = 0, PVH_NOTE = 16, OTHER_NOTE = 36, SHORT_NOTE = 56, HUGE_NOTE = 72, CUT_NOTE = 84 };
+enum { TEXT = 0, PVH_NOTE = 16, LONG_NOTE = 36, OTHER_NOTE = 60, SHORT_NOTE = 80, HUGE_NOTE = 96, CUT_NOTE = 108 };
 
 static struct image body(void)
 {
     struct image body = {{0}, 0};
     append(&body, "sixteen bytes ..", 16);
     append_note(&body, PVH_NOTE_TYPE, "Xen", 4, "\x00\x00\x10\x00", 4);
+    append_note(&body, PVH_NOTE_TYPE, "Xen", 4, "\x00\x00\x20\x00\x01", 5);
     append_note(&body, PVH_NOTE_TYPE, "GNU", 4, "\x00\x00\x20\x00", 4);
     append_note(&body, PVH_NOTE_TYPE, "Xen", 4, "", 0);
     append_note(&body, 1, "", 0, "", 0);
@@ -40,6 +41,11 @@ static struct image body(void)
 }
 
 #define PVH_ADDRESS 0x100000
+
+/* What is told of a PVH note that was used, in an image with a number of program headers: its address, and its descriptor. */
+#define USED(count, note, address, size) \
+    REKUSOYEN_PVH_PRESENT, address, ELF_HEADER_SIZE + (count) * PROGRAM_HEADER_SIZE + (note) + 16, size
+
 #define TOP UINT64_MAX
 
 #define LOADS_16 {LOADABLE, TEXT, 16, 3, 8}
@@ -67,11 +73,17 @@ static const struct load loads[] = {
     {"memory without file bytes up to the last address", {LOADS_16, {LOADABLE, TEXT, TOP - 1, 0, 1}}, 2, 0, 0, 0, 32,
      REKUSOYEN_ACCEPTED, {16, TOP, 0, 0}, {ARRIVES_16}},
     {"a PVH note", {{NOTES, PVH_NOTE, 0, 20, 0}, LOADS_16}, 2, 0, 0, 0, 32,
-     REKUSOYEN_ACCEPTED, {16, 24, REKUSOYEN_PVH_PRESENT, PVH_ADDRESS}, {ARRIVES_16}},
+     REKUSOYEN_ACCEPTED, {16, 24, USED(2, PVH_NOTE, PVH_ADDRESS, 4)}, {ARRIVES_16}},
     {"a PVH note and an offset", {{NOTES, PVH_NOTE, 0, 20, 0}, LOADS_16}, 2, REKUSOYEN_OFFSET_GIVEN, 0, 0, 32,
      REKUSOYEN_ACCEPTED, {16, 24, REKUSOYEN_PVH_IGNORED, 0}, {ARRIVES_16}},
-    {"the last note header decides", {{NOTES, PVH_NOTE, 0, 20, 0}, LOADS_16, {NOTES, OTHER_NOTE, 0, 20, 0}}, 3, 0, 0, 0, 32,
+    {"a PVH note behind another", {{NOTES, OTHER_NOTE, 0, 20, 0}, LOADS_16, {NOTES, PVH_NOTE, 0, 20, 0}}, 3, 0, 0, 0, 32,
+     REKUSOYEN_ACCEPTED, {16, 24, USED(3, PVH_NOTE, PVH_ADDRESS, 4)}, {ARRIVES_16}},
+    {"notes without a PVH note", {{NOTES, OTHER_NOTE, 0, 20, 0}, LOADS_16}, 2, 0, 0, 0, 32,
      REKUSOYEN_ACCEPTED, {16, 24, REKUSOYEN_PVH_NOT_PRESENT, 0}, {ARRIVES_16}},
+    {"a PVH note before another", {{NOTES, PVH_NOTE, 0, 20, 0}, LOADS_16, {NOTES, OTHER_NOTE, 0, 20, 0}}, 3, 0, 0, 0, 32,
+     REKUSOYEN_ACCEPTED, {16, 24, USED(3, PVH_NOTE, PVH_ADDRESS, 4)}, {ARRIVES_16}},
+    {"the first of two PVH notes", {{NOTES, LONG_NOTE, 0, 24, 0}, LOADS_16, {NOTES, PVH_NOTE, 0, 20, 0}}, 3, 0, 0, 0, 32,
+     REKUSOYEN_ACCEPTED, {16, 24, USED(3, LONG_NOTE, 0x200000, 5)}, {ARRIVES_16}},
 
     /* nothing is written, neither the segments before the refused program header nor those after it */
     {"an address that does not fit", {LOADS_16, {LOADABLE, TEXT, TOP - 3, 3, 3}, LOADS_40}, 3, REKUSOYEN_OFFSET_GIVEN, 4, 0, 64,
@@ -100,6 +112,8 @@ static const struct load loads[] = {
      REKUSOYEN_READ_NOTE_HEADER, {0}, {{0}}},
     {"a note of a huge size", {LOADS_16, {NOTES, HUGE_NOTE, 0, 12, 0}, LOADS_40}, 3, 0, 0, 0, 64,
      REKUSOYEN_OVERFLOW, {0}, {{0}}},
+    {"a note past the image behind a PVH note", {{NOTES, PVH_NOTE, 0, 20, 0}, LOADS_16, {NOTES, CUT_NOTE, 0, 1, 0}}, 3, 0, 0, 0, 64,
+     REKUSOYEN_READ_NOTE_HEADER, {0}, {{0}}},
     {"a PVH note without an address", {LOADS_16, {NOTES, SHORT_NOTE, 0, 16, 0}, LOADS_40}, 3, 0, 0, 0, 64,
      REKUSOYEN_INVALID_PVH_NOTE, {0}, {{0}}},
     {"notes that would be refused, and an offset", {LOADS_16, {NOTES, SHORT_NOTE, 0, 16, 0}, LOADS_40}, 3,
@@ -136,7 +150,7 @@ static void check_order(void)
     const size_t header = ELF_HEADER_SIZE;
     put_number(&image, E_ENTRY, 8, 16);
     put_number(&image, E_PHNUM, 2, 1);
-    for (size_t out_len = 0; out_len <= 5; out_len++)
+    for (size_t out_len = 0; out_len <= REKUSOYEN_ELF_LOAD_OUT + 1; out_len++)
         if (out_len != REKUSOYEN_ELF_LOAD_OUT)
             check_load(&load, &image, out_len);
     check_next(&load, &image, REKUSOYEN_READ_ELF_HEADER);

@@ -7,12 +7,14 @@
 static void check_loads(void)
 {
     const struct image elf = small_elf(), bzimage = bz_image(1, 16, "k", 1);
-    struct lent guest = lend_filled(32), numbers = lend_list(4), header = lend_filled(REKUSOYEN_SETUP_HEADER_SIZE);
+    struct lent guest = lend_filled(32), numbers = lend_list(REKUSOYEN_ELF_LOAD_OUT);
+    struct lent header = lend_filled(REKUSOYEN_SETUP_HEADER_SIZE);
+    const size_t load_out = REKUSOYEN_ELF_LOAD_OUT, note_out = REKUSOYEN_ELF_NOTE_OUT;
     uint64_t *out = numbers_of(&numbers);
-    CHECK_ANSWER("guest", rekusoyen_elf_load(NULL, 0, elf.bytes, elf.size, 0, 0, 0, out, 4), REKUSOYEN_READ_KERNEL_IMAGE);
-    CHECK_ANSWER("image", rekusoyen_elf_load(guest.bytes, 32, NULL, 0, 0, 0, 0, out, 4), REKUSOYEN_READ_ELF_HEADER);
+    CHECK_ANSWER("guest", rekusoyen_elf_load(NULL, 0, elf.bytes, elf.size, 0, 0, 0, out, load_out), REKUSOYEN_READ_KERNEL_IMAGE);
+    CHECK_ANSWER("image", rekusoyen_elf_load(guest.bytes, 32, NULL, 0, 0, 0, 0, out, load_out), REKUSOYEN_READ_ELF_HEADER);
     CHECK_ANSWER("out", rekusoyen_elf_load(guest.bytes, 32, elf.bytes, elf.size, 0, 0, 0, NULL, 0), REKUSOYEN_NO_ROOM);
-    CHECK_ANSWER("image", rekusoyen_elf_note(NULL, 0, 0, 1, out, 3), REKUSOYEN_READ_NOTE_HEADER);
+    CHECK_ANSWER("image", rekusoyen_elf_note(NULL, 0, 0, 1, out, note_out), REKUSOYEN_READ_NOTE_HEADER);
     CHECK_ANSWER("out", rekusoyen_elf_note(elf.bytes, elf.size, 0, 1, NULL, 0), REKUSOYEN_NO_ROOM);
     CHECK_ANSWER(
         "guest", rekusoyen_bzimage_load(NULL, 0, bzimage.bytes, bzimage.size, 0, 0, 0, out, 2, header.bytes, header.size),

@@ -62,7 +62,7 @@ static void put_image(struct mapping *mapping, const struct image *image)
 static void check_loads(
     const char *what, const struct lent *guest, const struct mapping *image, size_t image_len, uint32_t elf, uint32_t bzimage)
 {
-    const uint64_t elf_values[] = {16, 24, REKUSOYEN_PVH_IGNORED, 0};
+    const uint64_t elf_values[REKUSOYEN_ELF_LOAD_OUT] = {16, 24, REKUSOYEN_PVH_IGNORED};
     struct lent out = lend_list(REKUSOYEN_ELF_LOAD_OUT);
     uint32_t answer = rekusoyen_elf_load(
         guest->bytes, guest->size, image->bytes, image_len, 0, 0, 0, numbers_of(&out), REKUSOYEN_ELF_LOAD_OUT);
@@ -81,7 +81,7 @@ static void check_loads(
 
 static void check_walk(const struct mapping *image, size_t image_len, uint32_t expected)
 {
-    const uint64_t values[] = {REKUSOYEN_PVH_NOT_PRESENT, 0, 1};
+    const uint64_t values[REKUSOYEN_ELF_NOTE_OUT] = {REKUSOYEN_PVH_NOT_PRESENT, 0, 1};
     struct lent out = lend_list(REKUSOYEN_ELF_NOTE_OUT);
     uint32_t answer = rekusoyen_elf_note(
         image->bytes, image_len, LONGEST - NOTE_HEADER_SIZE, 1, numbers_of(&out), REKUSOYEN_ELF_NOTE_OUT);
@@ -134,7 +134,7 @@ static void load_elf_into(struct mapping *guest, size_t guest_len, uint32_t expe
 {
     const struct program_header at_end = {LOADABLE, 0, LAST, 3, 3};
     const struct image whole = elf_image(LAST, &at_end, 1, "elf", 3);
-    const uint64_t values[] = {LAST, LONGEST, REKUSOYEN_PVH_IGNORED, 0};
+    const uint64_t values[REKUSOYEN_ELF_LOAD_OUT] = {LAST, LONGEST, REKUSOYEN_PVH_IGNORED};
     struct lent image = lend_bytes(whole.bytes, whole.size), out = lend_list(REKUSOYEN_ELF_LOAD_OUT);
     uint32_t answer = rekusoyen_elf_load(
         guest->bytes, guest_len, image.bytes, image.size, 0, 0, 0, numbers_of(&out), REKUSOYEN_ELF_LOAD_OUT);

@@ -32,13 +32,14 @@ static struct image notes_image(void)
 }
 
 #define OUT REKUSOYEN_ELF_NOTE_OUT
-#define FOUND REKUSOYEN_PVH_PRESENT, 0x100000
+/* The PVH note found as the last of so many headers. */
+#define FOUND(headers) {REKUSOYEN_PVH_PRESENT, 0x100000, headers, PVH + 16, 4}
 
 static const struct walk walks[] = {
-    {"the PVH note first", PVH, 20, END, OUT, REKUSOYEN_ACCEPTED, {FOUND, 1}},
-    {"a size that ends within the PVH note", PVH, 1, END, OUT, REKUSOYEN_ACCEPTED, {FOUND, 1}},
-    {"an image that ends with the PVH note", PVH, 20, SHORT, OUT, REKUSOYEN_ACCEPTED, {FOUND, 1}},
-    {"three notes before the PVH note", EMPTY, 72, END, OUT, REKUSOYEN_ACCEPTED, {FOUND, 4}},
+    {"the PVH note first", PVH, 20, END, OUT, REKUSOYEN_ACCEPTED, FOUND(1)},
+    {"a size that ends within the PVH note", PVH, 1, END, OUT, REKUSOYEN_ACCEPTED, FOUND(1)},
+    {"an image that ends with the PVH note", PVH, 20, SHORT, OUT, REKUSOYEN_ACCEPTED, FOUND(1)},
+    {"three notes before the PVH note", EMPTY, 72, END, OUT, REKUSOYEN_ACCEPTED, FOUND(4)},
     {"a size that ends before the PVH note", EMPTY, 52, END, OUT, REKUSOYEN_ACCEPTED, {REKUSOYEN_PVH_NOT_PRESENT, 0, 3}},
     {"a size of 0, at any place", UINT64_MAX, 0, END, OUT, REKUSOYEN_ACCEPTED, {REKUSOYEN_PVH_NOT_PRESENT, 0, 0}},
     {"no image", 0, 0, 0, OUT, REKUSOYEN_ACCEPTED, {REKUSOYEN_PVH_NOT_PRESENT, 0, 0}},

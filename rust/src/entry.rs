@@ -28,16 +28,17 @@ pub const PVH_NOT_PRESENT: u64 = 1;
 pub const PVH_PRESENT: u64 = 2;
 
 /// How many places the list of an ELF load's values has.
-pub const ELF_LOAD_OUT: usize = 4;
+pub const ELF_LOAD_OUT: usize = 6;
 
 /// How many places the list of a note walk's values has.
-pub const ELF_NOTE_OUT: usize = 3;
+pub const ELF_NOTE_OUT: usize = 5;
 
 /// How many places the list of a bzImage load's values has.
 pub const BZIMAGE_LOAD_OUT: usize = 2;
 
 extern "C" {
-    /// Loads an ELF image. `out` has 4 places: the load address, the kernel's end, PVH (0 ignored, 1 not present, 2 present), its address.
+    /// Loads an ELF image. `out` has 6 places: the load address, the kernel's end, PVH (0 ignored, 1 not present, 2 present), its address,
+    /// and the place and the size of the descriptor that it was read from.
     ///
     /// # Safety
     ///
@@ -55,7 +56,8 @@ extern "C" {
         out_len: usize,
     ) -> u32;
 
-    /// Walks the notes of an ELF image. `out` has 3 places: PVH (1 not present, 2 present), its address, and how many headers were read.
+    /// Walks the notes of an ELF image. `out` has 5 places: PVH (1 not present, 2 present), its address, how many headers were read, and the
+    /// place and the size of the descriptor that it was read from.
     ///
     /// # Safety
     ///

@@ -75,7 +75,7 @@ fn number(address: Option<GuestAddress>) -> u64 {
     address.map_or(0, |address| address.0)
 }
 
-/// Loads an ELF image: the load address, the kernel's end, PVH and its address.
+/// Loads an ELF image: the load address, the kernel's end, PVH and its address, and the place and size of the descriptor.
 pub(crate) fn elf_load(
     guest: Guest,
     image: &[u8],
@@ -100,7 +100,8 @@ pub(crate) fn elf_load(
     answered(number).map(|()| out)
 }
 
-/// Walks the notes of `p_filesz` bytes at `p_offset`: PVH, its address, and how many note headers were read.
+/// Walks the notes of `p_filesz` bytes at `p_offset`: PVH, its address, how many note headers were read, and the place and size of the
+/// descriptor.
 pub(crate) fn elf_note(
     image: &[u8],
     p_offset: u64,

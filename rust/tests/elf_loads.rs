@@ -5,7 +5,9 @@ mod images;
 use images::{
     fresh, fresh_with, note, note_header, pvh_note, ElfImage, ProgramHeader, BODY, LOADABLE, NOTE,
 };
-use rekusoyen::loader::elf::{notes, segments, Elf, Error, Notes, PvhBootCapability, Segment};
+use rekusoyen::loader::elf::{
+    notes, segments, Elf, Error, Notes, PvhBootCapability, PvhNote, Segment,
+};
 use rekusoyen::loader::{self, KernelLoaderResult};
 use rekusoyen::GuestAddress;
 use PvhBootCapability::{PvhEntryIgnored, PvhEntryNotPresent, PvhEntryPresent};
@@ -204,14 +206,42 @@ fn pvh_is_present_absent_or_ignored() {
     for image in [&some, &none, &broken] {
         load(&image.bytes(), 32, Some(0), None).gives(16, 24, PvhEntryIgnored, written);
     }
-    // the last note header decides
+    // the first note found holds, whatever note headers stand before and behind it
     let some_then_none = some.clone().with(NOTE, 0, &other);
     let none_then_some = none.clone().with(NOTE, 0, &pvh_note(0x100000));
-    load(&some_then_none.bytes(), 32, None, None).gives(16, 24, PvhEntryNotPresent, written);
-    load(&none_then_some.bytes(), 32, None, None).gives(16, 24, entry, written);
+    let some_then_another = some.clone().with(NOTE, 0, &pvh_note(0x200000));
+    for image in [some_then_none, none_then_some, some_then_another] {
+        load(&image.bytes(), 32, None, None).gives(16, 24, entry, written);
+    }
+    // a later one is walked all the same
+    let some_then_broken = some.clone().with(NOTE, 0, &note_header(u32::MAX, 0, 1));
+    load(&some_then_broken.bytes(), 32, None, None).is_refused(Error::Overflow);
     // alignment is always 4, whatever the header says
     let aligned = some.edited(|header| header.p_align = 3);
     load(&aligned.bytes(), 32, None, None).gives(16, 24, entry, written);
+}
+
+#[test]
+fn the_note_that_was_used_is_told() {
+    let told = |image: &ElfImage, offset: Option<u64>| {
+        let offset = offset.map(GuestAddress);
+        let loaded = Elf::load_into_with_note(&mut fresh(32), offset, &image.bytes(), None);
+        loaded.map(|(_, note)| note)
+    };
+    // in the image: three bytes to load, a note of another name, two PVH notes in one segment, one in another
+    let other = note(b"GNU\0", 18, &[1, 2, 3, 4]);
+    let first = [other.clone(), note(b"Xen\0", 18, &[7; 9]), pvh_note(1)].concat();
+    let image = plain().with(NOTE, 0, &first).with(NOTE, 0, &pvh_note(2));
+    let used = PvhNote {
+        place: BODY + 3 + 20 + 16,
+        size: 9,
+    };
+    assert_eq!(told(&image, None), Ok(Some(used)));
+    assert_eq!(told(&image, Some(0)), Ok(None));
+    assert_eq!(told(&plain(), None), Ok(None));
+    assert_eq!(told(&plain().with(NOTE, 0, &other), None), Ok(None));
+    let broken = image.with(NOTE, 0, &note_header(0, u32::MAX, 1));
+    assert_eq!(told(&broken, None), Err(Error::Overflow.into()));
 }
 
 #[test]
@@ -232,23 +262,26 @@ fn a_refused_note_leaves_nothing_written() {
 
 #[test]
 fn notes_are_walked_over_any_part_of_an_image() {
-    let found = |headers| Notes {
+    let found = |place, headers| Notes {
         pvh_boot_cap: PvhEntryPresent(GuestAddress(7)),
+        pvh_note: Some(PvhNote { place, size: 4 }),
         headers,
     };
     let not_found = |headers| Notes {
         pvh_boot_cap: PvhEntryNotPresent,
+        pvh_note: None,
         headers,
     };
     let other = note(b"other", 18, b"12345");
     let behind = [other.clone(), pvh_note(7)].concat();
     let size = behind.len() as u64;
-    assert_eq!(notes(&pvh_note(7), 0, 20), Ok(found(1)));
+    assert_eq!(notes(&pvh_note(7), 0, 20), Ok(found(16, 1)));
     // a note that is begun is read to its end, which the image sets
-    assert_eq!(notes(&pvh_note(7), 0, 1), Ok(found(1)));
+    assert_eq!(notes(&pvh_note(7), 0, 1), Ok(found(16, 1)));
     assert_eq!(notes(&pvh_note(7), 0, 0), Ok(not_found(0)));
-    assert_eq!(notes(&behind, 0, size), Ok(found(2)));
-    assert_eq!(notes(&behind, other.len() as u64, 1), Ok(found(1)));
+    let place = other.len() as u64;
+    assert_eq!(notes(&behind, 0, size), Ok(found(place + 16, 2)));
+    assert_eq!(notes(&behind, place, 1), Ok(found(place + 16, 1)));
     assert_eq!(notes(&behind, 0, other.len() as u64), Ok(not_found(1)));
     let refused = [
         (Error::ReadNoteHeader, notes(&pvh_note(7)[..19], 0, 19)),

@@ -2,7 +2,7 @@
 //! mistakes: the module above names which as `program`.
 
 use super::program::{bzimage, elf, line::Line, loading, note, Refusal, Rules};
-use crate::answer::{Answer, BzimageLoaded, CallAnswer, ElfLoaded, NoteWalked, Pvh};
+use crate::answer::{Answer, BzimageLoaded, CallAnswer, ElfLoaded, Note, NoteWalked, Pvh};
 use crate::question::{Call, Load, Question, Walk};
 
 /// What an untouched byte of a lent output holds.
@@ -52,7 +52,10 @@ fn answer_note(walk: &Walk) -> Result<NoteWalked, u8> {
 
 fn pvh(pvh: note::Pvh) -> Pvh {
     match pvh {
-        note::Pvh::Present(address) => Pvh::At(address),
+        note::Pvh::Present(entry) => {
+            let (place, size) = (entry.place, entry.size.into());
+            Pvh::At(entry.address, Some(Note { place, size }))
+        }
         note::Pvh::NotPresent => Pvh::None,
         note::Pvh::Ignored => Pvh::Ignored,
     }

@@ -9,7 +9,15 @@ pub const UNNUMBERED: u8 = 255;
 pub enum Pvh {
     Ignored,
     None,
-    At(u64),
+    /// The entry's address, and the note that it was read from; the published crate does not tell which.
+    At(u64, Option<Note>),
+}
+
+/// The descriptor of a note: its place in the image, and its size as the note's header has it.
+#[derive(Clone, Copy, Debug, PartialEq, Eq)]
+pub struct Note {
+    pub place: u64,
+    pub size: u64,
 }
 
 #[derive(Clone, Debug, PartialEq, Eq)]
@@ -165,7 +173,8 @@ fn pvh(pvh: Pvh) -> String {
     match pvh {
         Pvh::Ignored => "ignored".into(),
         Pvh::None => "none".into(),
-        Pvh::At(address) => format!("at {address}"),
+        Pvh::At(address, Some(note)) => format!("at {address} note {} {}", note.place, note.size),
+        Pvh::At(address, None) => format!("at {address} note ? ?"),
     }
 }
 
@@ -202,14 +211,14 @@ mod tests {
         let loaded = ElfLoaded {
             load: 16,
             end: 24,
-            pvh: Pvh::At(5),
+            pvh: Pvh::At(5, Some(Note { place: 7, size: 4 })),
         };
         let answer = Answer::Elf {
             outcome: Ok(loaded),
             guest: vec![1, 9, 3, 9],
         };
         let sum = ((257 + 9) * 257 + 3) * 257 + 9;
-        let wanted = format!("elf ok 16 24 pvh at 5 guest 4 {sum} 2 1 3");
+        let wanted = format!("elf ok 16 24 pvh at 5 note 7 4 guest 4 {sum} 2 1 3");
         assert_eq!(answer.line(&[1, 2, 3, 4]), wanted);
     }
 

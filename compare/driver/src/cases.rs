@@ -13,6 +13,7 @@ pub fn all() -> Vec<Case> {
         refused_later(),
         memory_alone(),
         overfull(),
+        several_notes(),
         notes(),
         bzimage(),
         lines(),
@@ -266,6 +267,72 @@ fn overfull() -> Vec<Case> {
             &[(NOTES, 3, 0, 20, 0)],
             None,
             "elf refused 11, nothing changed",
+        ),
+    ]
+}
+
+/// Several note headers: the first PVH note found holds, and later ones may still be refused.
+fn several_notes() -> Vec<Case> {
+    // PVH notes of 1 MiB and, with a descriptor of 7 bytes, 2 MiB; one of another name; one with a short descriptor; one cut off
+    let bytes = [
+        &pvh_note()[..],
+        b"\x04\0\0\0\x07\0\0\0\x12\0\0\0Xen\0\x00\x00\x20\x00\x01\x02\x03\0",
+        b"\x04\0\0\0\x04\0\0\0\x12\0\0\0GNU\0\x00\x00\x30\x00",
+        b"\x04\0\0\0\x03\0\0\0\x12\0\0\0Xen\0",
+        b"\x04\0\0\0",
+    ]
+    .concat();
+    let first = (NOTES, 3, 0, 20, 0);
+    let second = (NOTES, 23, 0, 24, 0);
+    let other = (NOTES, 47, 0, 20, 0);
+    let short = (NOTES, 67, 0, 16, 0);
+    let cut = (NOTES, 83, 0, 4, 0);
+    let none = (NOTES, 0, 0, 0, 0);
+    let case = |headers: &[Header], offset, told| {
+        let load = with_headers(headers, offset, &bytes);
+        (Question::Elf(load), told)
+    };
+    vec![
+        case(
+            &[first, other],
+            None,
+            "elf ok 16 0 pvh at 1048576 note 195 4, nothing changed",
+        ),
+        case(
+            &[first, none],
+            None,
+            "elf ok 16 0 pvh at 1048576 note 195 4, nothing changed",
+        ),
+        case(
+            &[first, second],
+            None,
+            "elf ok 16 0 pvh at 1048576 note 195 4, nothing changed",
+        ),
+        case(
+            &[second, first],
+            None,
+            "elf ok 16 0 pvh at 2097152 note 215 7, nothing changed",
+        ),
+        case(
+            &[other, SMALL, second, none],
+            None,
+            "elf ok 16 24 pvh at 2097152 note 327 7, 16 to 18 changed",
+        ),
+        case(
+            &[other, none],
+            None,
+            "elf ok 16 0 pvh none, nothing changed",
+        ),
+        case(&[first, short], None, "elf refused 12, nothing changed"),
+        case(
+            &[first, SMALL, cut],
+            None,
+            "elf refused 11, nothing changed",
+        ),
+        case(
+            &[first, cut],
+            Some(0),
+            "elf ok 16 0 pvh ignored, nothing changed",
         ),
     ]
 }

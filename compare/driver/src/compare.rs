@@ -1,6 +1,6 @@
 //! Whether two replies to one question agree.
 
-use crate::answer::{Answer, CallAnswer, NoteWalked};
+use crate::answer::{Answer, CallAnswer, ElfLoaded, NoteWalked, Pvh};
 use crate::backend::Reply;
 use crate::domain;
 use crate::question::Question;
@@ -38,9 +38,37 @@ fn without_failed_copy(question: &Question, answer: &Answer, wanted: &Answer) ->
     answer
 }
 
+/// Whether two answers differ in what the published crate tells of an ELF load, which is not the note that was used.
+pub fn differ_for_crate(one: &Answer, other: &Answer) -> bool {
+    let mut other = other.clone();
+    if let Answer::Elf { outcome, .. } = &mut other {
+        if let Ok(ElfLoaded { pvh, .. }) = outcome {
+            *pvh = without_note(*pvh);
+        }
+    }
+    !answers_agree(one, &other)
+}
+
+fn without_note(pvh: Pvh) -> Pvh {
+    match pvh {
+        Pvh::At(address, _) => Pvh::At(address, None),
+        pvh => pvh,
+    }
+}
+
 /// Equal in everything that both tell.
 fn answers_agree(wanted: &Answer, other: &Answer) -> bool {
     match (wanted, other) {
+        (
+            Answer::Elf {
+                outcome: Ok(wanted),
+                guest,
+            },
+            Answer::Elf {
+                outcome: Ok(other),
+                guest: other_guest,
+            },
+        ) => loads_agree(wanted, other) && guest == other_guest,
         (Answer::Note(Ok(wanted)), Answer::Note(Ok(other))) => walks_agree(wanted, other),
         (Answer::Line(wanted), Answer::Line(other)) => calls_agree(wanted, other),
         (
@@ -59,8 +87,17 @@ fn answers_agree(wanted: &Answer, other: &Answer) -> bool {
     }
 }
 
+fn loads_agree(wanted: &ElfLoaded, other: &ElfLoaded) -> bool {
+    (wanted.load, wanted.end) == (other.load, other.end) && pvh_agrees(wanted.pvh, other.pvh)
+}
+
+fn pvh_agrees(wanted: Pvh, other: Pvh) -> bool {
+    wanted == other || without_note(wanted) == other
+}
+
 fn walks_agree(wanted: &NoteWalked, other: &NoteWalked) -> bool {
-    wanted.pvh == other.pvh && (other.headers.is_none() || wanted.headers == other.headers)
+    pvh_agrees(wanted.pvh, other.pvh)
+        && (other.headers.is_none() || wanted.headers == other.headers)
 }
 
 fn calls_agree(wanted: &[CallAnswer], other: &[CallAnswer]) -> bool {
@@ -72,7 +109,21 @@ fn calls_agree(wanted: &[CallAnswer], other: &[CallAnswer]) -> bool {
 pub fn completed(question: &Question, crate_answer: &Answer, second_answer: &Answer) -> Answer {
     let mut whole = without_failed_copy(question, crate_answer, second_answer);
     match (&mut whole, second_answer) {
-        (Answer::Note(Ok(walked)), Answer::Note(Ok(other))) => walked.headers = other.headers,
+        (
+            Answer::Elf {
+                outcome: Ok(loaded),
+                ..
+            },
+            Answer::Elf {
+                outcome: Ok(other), ..
+            },
+        ) if pvh_agrees(other.pvh, loaded.pvh) => loaded.pvh = other.pvh,
+        (Answer::Note(Ok(walked)), Answer::Note(Ok(other))) => {
+            walked.headers = other.headers;
+            if pvh_agrees(other.pvh, walked.pvh) {
+                walked.pvh = other.pvh;
+            }
+        }
         (Answer::Line(calls), Answer::Line(others)) => complete_calls(calls, others),
         (Answer::LineLoad { calls, .. }, Answer::LineLoad { calls: others, .. }) => {
             complete_calls(calls, others);
@@ -93,7 +144,7 @@ fn complete_calls(calls: &mut [CallAnswer], others: &[CallAnswer]) {
 #[cfg(test)]
 mod tests {
     use super::*;
-    use crate::answer::Pvh;
+    use crate::answer::Note;
     use crate::examples;
     use crate::over_second;
 
@@ -125,6 +176,27 @@ mod tests {
             let agrees = agrees_but_for_failed_copy(&question, &wanted, &reply);
             assert_eq!(agrees, forgiven, "byte {place}");
         }
+    }
+
+    #[test]
+    fn the_note_that_was_used_is_compared_where_it_is_told() {
+        let at = |place| Pvh::At(7, Some(Note { place, size: 4 }));
+        let loaded = |pvh| {
+            let (load, end) = (1, 2);
+            let outcome = Ok(ElfLoaded { load, end, pvh });
+            let guest = vec![3];
+            Answer::Elf { outcome, guest }
+        };
+        let untold = loaded(Pvh::At(7, None));
+        assert!(answers_agree(&loaded(at(5)), &loaded(at(5))));
+        assert!(!answers_agree(&loaded(at(5)), &loaded(at(6))));
+        assert!(answers_agree(&loaded(at(5)), &untold));
+        assert!(!answers_agree(&loaded(at(5)), &loaded(Pvh::At(8, None))));
+        assert!(!differ_for_crate(&loaded(at(5)), &loaded(at(6))));
+        assert!(differ_for_crate(&loaded(at(5)), &loaded(Pvh::None)));
+        let question = &Question::Line(vec![]);
+        let whole = completed(question, &untold, &loaded(at(5)));
+        assert_eq!(whole, loaded(at(5)));
     }
 
     #[test]

@@ -1,6 +1,7 @@
 //! Questions that the rules of the proved code answer otherwise than the published ones, and which departures explain each.
 
 use crate::answer::Answer;
+use crate::compare::differ_for_crate;
 use crate::question::Question;
 use second::{Departure, Rules};
 use std::collections::BTreeMap;
@@ -38,10 +39,12 @@ impl Answers {
         }
     }
 
-    /// Where the two differ, the names of the switches that explain it: of the fewest that alone, over the published rules, give the
-    /// answer of the proved code.
+    /// Where the two differ in what the crate tells, the names of the switches that explain it: of the fewest that alone, over the
+    /// published rules, give the answer of the proved code.
     pub fn explained(&self, question: &Question, wanted: Wanted) -> Option<String> {
-        self.published.as_ref()?;
+        if !differ_for_crate(self.published.as_ref()?, &self.landed) {
+            return None;
+        }
         let gives = |set: &Vec<Departure>| wanted(question, Rules::of(set)) == self.landed;
         let set = sets(Departure::LANDED).into_iter().find(gives);
         let names = set?.into_iter().map(Departure::name);

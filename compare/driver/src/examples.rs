@@ -86,7 +86,24 @@ pub fn departures() -> Vec<(&'static str, &'static str, &'static str, Load)> {
             "refused 14, nothing written",
             smallest(&[(64, 1), (96, 1)], &[], 1),
         ),
+        (
+            "L7",
+            "two note headers, of which the first has the PVH note and the second no notes, 1 guest byte",
+            "load 0, end 0, PVH entry point 0 of the descriptor of 4 bytes at 136",
+            smallest_of_notes(),
+        ),
     ]
+}
+
+/// Two note headers: the first of one byte at 120, where the PVH note stands in the fields of the second that nobody looks at.
+fn smallest_of_notes() -> Load {
+    let mut load = smallest(&[(56, 2), (64, 4), (72, 120), (96, 1)], &[], 1);
+    load.image.resize(176, 0);
+    for (place, byte) in [(120, 4), (124, 4), (128, 18)] {
+        load.image[place] = byte;
+    }
+    put(&mut load.image, 132, b"Xen");
+    load
 }
 
 /// An ELF image of 120 bytes, header and one program header, all 0 but for what a load asks of the header and these bytes: places with
@@ -221,9 +238,9 @@ mod tests {
             "elf refused 10",
             "elf ok 16 24 pvh ignored",
             "elf refused 5",
-            "elf ok 16 25 pvh at 1048576",
-            "note ok pvh at 1048576 headers 1",
-            "note ok pvh at 1048576 headers 1",
+            "elf ok 16 25 pvh at 1048576 note 272 4",
+            "note ok pvh at 1048576 note 16 4 headers 1",
+            "note ok pvh at 1048576 note 16 4 headers 1",
             &lines[9],
             "bzimage refused 22",
             "line ok ok ok:666f6f3d62617200",

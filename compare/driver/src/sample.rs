@@ -23,7 +23,7 @@ const SEED: u64 = 1;
 /// How many bytes the random questions of an area and their answers may take.
 const BUDGET: [(Area, usize); 5] = [
     (Area::Elf, 150_000),
-    (Area::Note, 85_000),
+    (Area::Note, 86_500),
     (Area::Bzimage, 90_000),
     (Area::Line, 140_000),
     (Area::LineLoad, 60_000),

@@ -7,6 +7,7 @@ use driver::answer::UNNUMBERED;
 use driver::examples;
 use driver::question::Load;
 use linux_loader::cmdline::Cmdline;
+use linux_loader::loader::elf::PvhBootCapability;
 use linux_loader::loader::{load_cmdline, BzImage, Elf, KernelLoader, KernelLoaderResult};
 use std::fs::File;
 use std::io::{Cursor, Read, Seek};
@@ -298,7 +299,11 @@ fn outcome(outcome: Outcome) -> String {
     match outcome {
         Some(Ok(loaded)) => {
             let (load, end) = (loaded.kernel_load.raw_value(), loaded.kernel_end);
-            format!("load {load}, end {end}")
+            let pvh = match loaded.pvh_boot_cap {
+                PvhBootCapability::PvhEntryIgnored => String::new(),
+                told => format!(", {told}"),
+            };
+            format!("load {load}, end {end}{pvh}")
         }
         Some(Err(number)) => refused(number),
         None => "panics".into(),

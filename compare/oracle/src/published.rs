@@ -124,7 +124,7 @@ fn run<L: KernelLoader>(memory: &GuestMemoryMmap, options: Options, image: &[u8]
 
 fn pvh(capability: PvhBootCapability) -> Pvh {
     match capability {
-        PvhBootCapability::PvhEntryPresent(address) => Pvh::At(address.raw_value()),
+        PvhBootCapability::PvhEntryPresent(address) => Pvh::At(address.raw_value(), None),
         PvhBootCapability::PvhEntryNotPresent => Pvh::None,
         PvhBootCapability::PvhEntryIgnored => Pvh::Ignored,
     }

@@ -1,7 +1,7 @@
 //! Loads of images, and walks over notes.
 
 use crate::outcome;
-use driver::answer::{Answer, BzimageLoaded, ElfLoaded, NoteWalked, Pvh};
+use driver::answer::{Answer, BzimageLoaded, ElfLoaded, Note, NoteWalked, Pvh};
 use driver::question::{Load, Options, Walk};
 use rekusoyen::entry;
 
@@ -11,17 +11,25 @@ fn flags(options: Options) -> u32 {
     offset | highmem
 }
 
-fn pvh(code: u64, address: u64) -> Pvh {
+/// PVH by its code, its address, and the place and size of the descriptor that it was read from: all 0 where there is none.
+fn pvh(code: u64, address: u64, place: u64, size: u64) -> Pvh {
+    let untold = || assert_eq!([address, place, size], [0; 3], "there is no note");
     match code {
-        0 => Pvh::Ignored,
-        1 => Pvh::None,
-        _ => Pvh::At(address),
+        0 => {
+            untold();
+            Pvh::Ignored
+        }
+        1 => {
+            untold();
+            Pvh::None
+        }
+        _ => Pvh::At(address, Some(Note { place, size })),
     }
 }
 
 pub fn elf(load: &Load) -> Answer {
     let mut guest = load.guest.clone();
-    let mut out = [0u64; 4];
+    let mut out = [7u64; entry::ELF_LOAD_OUT];
     let options = load.options;
     // SAFETY: each pointer is that of a slice, with its own length, which lives through the call; `guest` and `out` are lent to it
     // alone.
@@ -41,13 +49,13 @@ pub fn elf(load: &Load) -> Answer {
     let outcome = outcome(number, || ElfLoaded {
         load: out[0],
         end: out[1],
-        pvh: pvh(out[2], out[3]),
+        pvh: pvh(out[2], out[3], out[4], out[5]),
     });
     Answer::Elf { outcome, guest }
 }
 
 pub fn note(walk: &Walk) -> Answer {
-    let mut out = [0u64; 3];
+    let mut out = [7u64; entry::ELF_NOTE_OUT];
     // SAFETY: as above; the image is read only.
     let number = unsafe {
         entry::rekusoyen_elf_note(
@@ -60,7 +68,7 @@ pub fn note(walk: &Walk) -> Answer {
         )
     };
     Answer::Note(outcome(number, || NoteWalked {
-        pvh: pvh(out[0], out[1]),
+        pvh: pvh(out[0], out[1], out[3], out[4]),
         headers: Some(out[2]),
     }))
 }

@@ -80,7 +80,12 @@ fn load_into(
             TYPE_LOAD if rules.has(Departure::L3) && program_header.memory_size > 0 => {
                 end = end.max(memory_end(offset, &program_header)?);
             }
-            TYPE_NOTE => pvh = pvh_of(image, offset, &program_header)?,
+            TYPE_NOTE => {
+                let later = pvh_of(image, offset, &program_header)?;
+                if !(rules.has(Departure::L7) && is_present(pvh)) {
+                    pvh = later;
+                }
+            }
             _ => {}
         }
     }
@@ -168,6 +173,10 @@ fn pvh_of(image: &[u8], offset: Option<u64>, notes: &ProgramHeader) -> Result<Pv
         return Ok(Pvh::Ignored);
     }
     Ok(note::walk(image, notes.offset, notes.file_size)?.pvh)
+}
+
+fn is_present(pvh: Pvh) -> bool {
+    matches!(pvh, Pvh::Present(_))
 }
 
 /// `address` plus what is added to it, if that is still an address.
@@ -379,32 +388,68 @@ mod tests {
         assert!(load(rules, &image, &mut [0; 32], None, None).is_ok());
     }
 
-    #[test]
-    fn the_last_note_header_decides() {
+    /// An image of note headers alone, whose bytes begin at these places behind them with these sizes: two PVH notes, of entry points 1
+    /// and 2, and one that is cut off.
+    fn with_notes(headers: &[(u8, u8)]) -> Vec<u8> {
         let mut image = small();
-        image[56] = 2;
         image.truncate(64);
-        for size in [20u8, 0] {
+        image[56] = headers.len() as u8;
+        let body = 64 + 56 * headers.len() as u16;
+        for (place, size) in headers {
             let mut entry = [0; 56];
             entry[0] = 4;
-            entry[8] = 176;
-            entry[32] = size;
+            put(&mut entry, 8, &(body + u16::from(*place)).to_le_bytes());
+            entry[32] = *size;
             image.extend(entry);
         }
-        image.extend(*b"\x04\0\0\0\x04\0\0\0\x12\0\0\0Xen\0\x00\x00\x10\x00");
-        assert_eq!(
-            load(PUBLISHED, &image, &mut [], None, None),
-            loaded(16, 0, Pvh::NotPresent)
-        );
-        assert_eq!(
-            load(PUBLISHED, &image, &mut [], Some(0), None),
-            loaded(16, 0, Pvh::Ignored)
-        );
-        image[56] = 1;
-        assert_eq!(
-            load(PUBLISHED, &image, &mut [], None, None),
-            loaded(16, 0, Pvh::Present(0x10_0000))
-        );
+        for address in [1, 2] {
+            image.extend(*b"\x04\0\0\0\x04\0\0\0\x12\0\0\0Xen\0");
+            image.extend([address, 0, 0, 0]);
+        }
+        image
+    }
+
+    /// The first and the second PVH note; no notes; notes that pass the image.
+    const FIRST: (u8, u8) = (0, 20);
+    const SECOND: (u8, u8) = (20, 20);
+    const NONE: (u8, u8) = (0, 0);
+    const CUT: (u8, u8) = (30, 1);
+
+    fn pvh_by(rules: Rules, offset: Option<u64>, headers: &[(u8, u8)]) -> Result<Pvh, Refusal> {
+        let loaded = load(rules, &with_notes(headers), &mut [], offset, None);
+        loaded.map(|loaded| loaded.pvh)
+    }
+
+    fn at(address: u64, place: u64) -> Result<Pvh, Refusal> {
+        let size = 4;
+        Ok(Pvh::Present(note::Entry {
+            address,
+            place,
+            size,
+        }))
+    }
+
+    #[test]
+    fn by_the_published_rules_the_last_note_header_decides() {
+        let pvh = |headers: &[(u8, u8)]| pvh_by(PUBLISHED, None, headers);
+        assert_eq!(pvh(&[FIRST]), at(1, 120 + 16));
+        assert_eq!(pvh(&[FIRST, NONE]), Ok(Pvh::NotPresent));
+        assert_eq!(pvh(&[FIRST, SECOND]), at(2, 176 + 36));
+        assert_eq!(pvh_by(PUBLISHED, Some(0), &[FIRST, NONE]), Ok(Pvh::Ignored));
+    }
+
+    #[test]
+    fn the_first_note_found_holds() {
+        let rules = Rules::of(&[Departure::L7]);
+        let pvh = |headers: &[(u8, u8)]| pvh_by(rules, None, headers);
+        assert_eq!(pvh(&[FIRST, NONE]), at(1, 176 + 16));
+        assert_eq!(pvh(&[FIRST, SECOND]), at(1, 176 + 16));
+        assert_eq!(pvh(&[NONE, SECOND, FIRST, NONE]), at(2, 288 + 36));
+        assert_eq!(pvh(&[NONE, NONE]), Ok(Pvh::NotPresent));
+        // later note headers are still walked
+        assert_eq!(pvh(&[FIRST, CUT]), Err(Refusal::ReadNoteHeader));
+        // with an offset none is
+        assert_eq!(pvh_by(rules, Some(0), &[FIRST, CUT]), Ok(Pvh::Ignored));
     }
 
     #[test]

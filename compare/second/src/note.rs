@@ -12,9 +12,17 @@ const GREATEST_SIZE: u32 = 0xffff_fffc;
 /// What an image says about PVH booting.
 #[derive(Clone, Copy, Debug, PartialEq, Eq)]
 pub enum Pvh {
-    Present(u64),
+    Present(Entry),
     NotPresent,
     Ignored,
+}
+
+/// The entry point, and the descriptor that it was read from: its place in the image, and its size as the note's header has it.
+#[derive(Clone, Copy, Debug, PartialEq, Eq)]
+pub struct Entry {
+    pub address: u64,
+    pub place: u64,
+    pub size: u32,
 }
 
 /// What a walk found, and how many note headers it read on the way.
@@ -53,13 +61,18 @@ pub fn walk(image: &[u8], place: u64, size: u64) -> Result<Walked, Refusal> {
     Ok(Walked { pvh, headers })
 }
 
-/// The number in the descriptor of a found PVH note.
-fn entry_point(image: &[u8], at: u128, descriptor_size: u32) -> Result<u64, Refusal> {
+/// What the descriptor of a found PVH note says; it stands at `at`.
+fn entry_point(image: &[u8], at: u128, descriptor_size: u32) -> Result<Entry, Refusal> {
     if descriptor_size < 4 {
         return Err(Refusal::InvalidPvhNote);
     }
     let descriptor = read(image, at, 4)?;
-    Ok(u64::from(u32_at(descriptor, 0)))
+    Ok(Entry {
+        address: u64::from(u32_at(descriptor, 0)),
+        // what was read lies in the image
+        place: at as u64,
+        size: descriptor_size,
+    })
 }
 
 fn read(image: &[u8], at: u128, count: u64) -> Result<&[u8], Refusal> {
@@ -86,8 +99,14 @@ mod tests {
         note(4, 4, 18, b"Xen\0\x00\x00\x10\x00")
     }
 
-    fn found(entry: u64, headers: u64) -> Result<Walked, Refusal> {
-        let pvh = Pvh::Present(entry);
+    /// An entry point that was found in a descriptor of 4 bytes.
+    fn found(address: u64, place: u64, headers: u64) -> Result<Walked, Refusal> {
+        let size = 4;
+        let pvh = Pvh::Present(Entry {
+            address,
+            place,
+            size,
+        });
         Ok(Walked { pvh, headers })
     }
 
@@ -98,8 +117,8 @@ mod tests {
 
     #[test]
     fn a_pvh_note_is_found_even_past_the_segment_size() {
-        assert_eq!(walk(&pvh_note(), 0, 20), found(1_048_576, 1));
-        assert_eq!(walk(&pvh_note(), 0, 1), found(1_048_576, 1));
+        assert_eq!(walk(&pvh_note(), 0, 20), found(1_048_576, 16, 1));
+        assert_eq!(walk(&pvh_note(), 0, 1), found(1_048_576, 16, 1));
         assert_eq!(walk(&pvh_note(), 0, 0), not_found(0));
     }
 
@@ -120,7 +139,7 @@ mod tests {
     fn another_note_is_skipped_by_its_rounded_sizes() {
         let mut image = note(5, 1, 18, &[7; 12]);
         image.extend(pvh_note());
-        assert_eq!(walk(&image, 0, 25), found(1_048_576, 2));
+        assert_eq!(walk(&image, 0, 25), found(1_048_576, 40, 2));
         assert_eq!(walk(&image, 0, 24), not_found(1));
     }
 
@@ -128,7 +147,7 @@ mod tests {
     fn another_name_of_four_bytes_is_skipped_too() {
         let mut image = note(4, 0, 18, b"Xen!");
         image.extend(pvh_note());
-        assert_eq!(walk(&image, 0, 17), found(1_048_576, 2));
+        assert_eq!(walk(&image, 0, 17), found(1_048_576, 32, 2));
     }
 
     #[test]
@@ -140,10 +159,13 @@ mod tests {
             walk(&note(0xffff_fffc, 0xffff_fffc, 1, &[]), 0, 1),
             not_found(1)
         );
-        assert_eq!(
-            walk(&note(4, u32::MAX, 18, b"Xen\0abcd"), 0, 1),
-            found(0x6463_6261, 1)
-        );
+        let walked = walk(&note(4, u32::MAX, 18, b"Xen\0abcd"), 0, 1).unwrap();
+        let entry = Entry {
+            address: 0x6463_6261,
+            place: 16,
+            size: u32::MAX,
+        };
+        assert_eq!(walked.pvh, Pvh::Present(entry));
     }
 
     #[test]

@@ -9,17 +9,21 @@ pub enum Departure {
     L3,
     /// A loadable segment with more bytes in the file than in memory is refused.
     L8,
+    /// The first PVH note found holds: a later note header neither replaces nor clears it, but may still be refused.
+    L7,
 }
 
 impl Departure {
     /// Those that the proved code has. Each request adds its own when it lands.
-    pub const LANDED: &'static [Departure] = &[Departure::L13, Departure::L3, Departure::L8];
+    pub const LANDED: &'static [Departure] =
+        &[Departure::L13, Departure::L3, Departure::L8, Departure::L7];
 
     pub fn name(self) -> &'static str {
         match self {
             Departure::L13 => "L13",
             Departure::L3 => "L3",
             Departure::L8 => "L8",
+            Departure::L7 => "L7",
         }
     }
 }

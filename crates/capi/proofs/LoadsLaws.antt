@@ -35,9 +35,9 @@ passes x h e = rw h e
 -- ---- an ELF load
 
 module _ (image : List ℕ) (offset highmem : Given) (guest out : List ℕ) where
-  pub elf-unsized : {r : ℕ} → (length out ≡ 4 → ⊥) → r ≡ numberOf NoRoom → ElfLoads image offset highmem guest out r guest out
+  pub elf-unsized : {r : ℕ} → (length out ≡ 6 → ⊥) → r ≡ numberOf NoRoom → ElfLoads image offset highmem guest out r guest out
   elf-unsized other e =
-      let f = ne-eqb (length out) 4 other in
+      let f = ne-eqb (length out) 6 other in
       let plan = elf.planOf image (memoryOf guest) offset highmem in
       record {
         answer = passes (elfNumber (plan .answer)) f e;
@@ -45,10 +45,10 @@ module _ (image : List ℕ) (offset highmem : Given) (guest out : List ℕ) wher
         told = passes (sets out 0 (elfValues (plan .answer))) f refl;
       }
 
-  pub elf-sized : {o h : Given} {a : Answer} {r : ℕ} {after left : List ℕ} → length out ≡ 4 → o ≡ offset → h ≡ highmem → LoadSays image o h guest a after
+  pub elf-sized : {o h : Given} {a : Answer} {r : ℕ} {after left : List ℕ} → length out ≡ 6 → o ≡ offset → h ≡ highmem → LoadSays image o h guest a after
       → Tells (elfNumber a) (elfValues a) out r left → ElfLoads image offset highmem guest out r after left
   elf-sized {o} {h} {a} same eo eh says tells =
-      let t = eq-eqb (length out) 4 same in
+      let t = eq-eqb (length out) 6 same in
       let is : a ≡ elf.planOf image (memoryOf guest) offset highmem .answer = says .answer ∙ rw (eo, eh) in
       record {
         answer = picks (numberOf NoRoom) t (tells .answer ∙ ap elfNumber is);
@@ -62,15 +62,15 @@ module _ (image : List ℕ) (p-offset p-filesz : ℕ) (out : List ℕ) where
   abbrev walk : ElfNote
   walk = publicNote image (record { 0 = p-offset }) p-filesz
 
-  pub note-unsized : {r : ℕ} → (length out ≡ 3 → ⊥) → r ≡ numberOf NoRoom → ElfNotes image p-offset p-filesz out r out
+  pub note-unsized : {r : ℕ} → (length out ≡ 5 → ⊥) → r ≡ numberOf NoRoom → ElfNotes image p-offset p-filesz out r out
   note-unsized other e =
-      let f = ne-eqb (length out) 3 other in
+      let f = ne-eqb (length out) 5 other in
       record { answer = passes (noteNumber (walk .answer)) f e; told = passes (sets out 0 (noteValues (walk .answer) (walk .headers))) f refl }
 
-  pub note-sized : {n : ElfNote} {r : ℕ} {left : List ℕ} → length out ≡ 3 → n ≡ walk
+  pub note-sized : {n : ElfNote} {r : ℕ} {left : List ℕ} → length out ≡ 5 → n ≡ walk
       → Tells (noteNumber (n .answer)) (noteValues (n .answer) (n .headers)) out r left → ElfNotes image p-offset p-filesz out r left
   note-sized same is tells =
-      let t = eq-eqb (length out) 3 same in
+      let t = eq-eqb (length out) 5 same in
       record {
         answer = picks (numberOf NoRoom) t (tells .answer ∙ ap (λ (x : ElfNote). noteNumber (x .answer)) is);
         told = picks out t (tells .told ∙ ap (λ (x : ElfNote). sets out 0 (noteValues (x .answer) (x .headers))) is);

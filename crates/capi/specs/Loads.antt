@@ -67,16 +67,16 @@ leftWhere sized left was = pick sized left was
 
 -- an ELF load
 pub record ElfLoads (image : List ℕ) (offset highmem : Given) (guest out : List ℕ) (r : ℕ) (guest-left out-left : List ℕ) : Type 0 where
-  pub answer : r ≡ numberWhere (eqb (length out) 4) (elfNumber (elf.planOf image (memoryOf guest) offset highmem .answer))
-  pub memory : guest-left ≡ leftWhere (eqb (length out) 4) (pour (elf.planOf image (memoryOf guest) offset highmem .stream) guest) guest
-  pub told : out-left ≡ leftWhere (eqb (length out) 4) (sets out 0 (elfValues (elf.planOf image (memoryOf guest) offset highmem .answer))) out
+  pub answer : r ≡ numberWhere (eqb (length out) 6) (elfNumber (elf.planOf image (memoryOf guest) offset highmem .answer))
+  pub memory : guest-left ≡ leftWhere (eqb (length out) 6) (pour (elf.planOf image (memoryOf guest) offset highmem .stream) guest) guest
+  pub told : out-left ≡ leftWhere (eqb (length out) 6) (sets out 0 (elfValues (elf.planOf image (memoryOf guest) offset highmem .answer))) out
 
 -- a note walk
 pub record ElfNotes (image : List ℕ) (p-offset p-filesz : ℕ) (out : List ℕ) (r : ℕ) (left : List ℕ) : Type 0 where
-  pub answer : r ≡ numberWhere (eqb (length out) 3) (noteNumber (publicNote image (record { 0 = p-offset }) p-filesz .answer))
+  pub answer : r ≡ numberWhere (eqb (length out) 5) (noteNumber (publicNote image (record { 0 = p-offset }) p-filesz .answer))
   pub told :
       left
-      ≡ leftWhere (eqb (length out) 3)
+      ≡ leftWhere (eqb (length out) 5)
       (sets out 0
       (noteValues (publicNote image (record { 0 = p-offset }) p-filesz .answer) (publicNote image (record { 0 = p-offset }) p-filesz .headers)))
       out

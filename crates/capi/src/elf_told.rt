@@ -1,7 +1,7 @@
 // The answers of an ELF load and of a note walk, as numbers.
 ghost use mathlib.Core.Path.{_≡_};
 ghost use lib.ListN.{length};
-ghost use Rattle.elf.specs.Load.{pvhCode, pvhAddress, elfNumber, elfValues, noteNumber, noteValues};
+ghost use Rattle.elf.specs.Load.{pvhCode, pvhAddress, pvhPlace, pvhSize, elfNumber, elfValues, noteNumber, noteValues};
 ghost use Rattle.capi.specs.Loads.{Tells};
 use elf::Answer;
 use elf::ElfNote;
@@ -24,13 +24,33 @@ fn pvh_address(said: PvhBootCapability) -> u64
     match said {
         PvhBootCapability::PvhEntryIgnored => 0,
         PvhBootCapability::PvhEntryNotPresent => 0,
-        PvhBootCapability::PvhEntryPresent(address) => address.0,
+        PvhBootCapability::PvhEntryPresent(note) => note.entry.0,
+    }
+}
+
+fn pvh_place(said: PvhBootCapability) -> u64
+    ensures { λ r. ⌜ r ≡ pvhPlace said ⌝ }
+{
+    match said {
+        PvhBootCapability::PvhEntryIgnored => 0,
+        PvhBootCapability::PvhEntryNotPresent => 0,
+        PvhBootCapability::PvhEntryPresent(note) => note.place.0,
+    }
+}
+
+fn pvh_size(said: PvhBootCapability) -> u64
+    ensures { λ r. ⌜ r ≡ pvhSize said ⌝ }
+{
+    match said {
+        PvhBootCapability::PvhEntryIgnored => 0,
+        PvhBootCapability::PvhEntryNotPresent => 0,
+        PvhBootCapability::PvhEntryPresent(note) => note.size,
     }
 }
 
 // The number of a load's answer; its values into `out`.
 pub(crate) fn load(out: &mut [u64], answer: Answer) -> u32
-    requires { ⌜ length (now out) ≡ 4 ⌝ }
+    requires { ⌜ length (now out) ≡ 6 ⌝ }
     ensures { λ r. ⌜ Tells (elfNumber answer) (elfValues answer) (now (out .entry)) r (now (out .exit)) ⌝ }
 {
     match answer {
@@ -40,6 +60,8 @@ pub(crate) fn load(out: &mut [u64], answer: Answer) -> u32
             out[1] = kernel.kernel_end.0;
             out[2] = pvh_code(said);
             out[3] = pvh_address(said);
+            out[4] = pvh_place(said);
+            out[5] = pvh_size(said);
             0
         }
         Answer::Refused(refusal) => answers::number(refusal),
@@ -48,7 +70,7 @@ pub(crate) fn load(out: &mut [u64], answer: Answer) -> u32
 
 // The number of a note walk's answer; its values into `out`.
 pub(crate) fn note(out: &mut [u64], note: ElfNote) -> u32
-    requires { ⌜ length (now out) ≡ 3 ⌝ }
+    requires { ⌜ length (now out) ≡ 5 ⌝ }
     ensures { λ r. ⌜ Tells (noteNumber (note .answer)) (noteValues (note .answer) (note .headers)) (now (out .entry)) r (now (out .exit)) ⌝ }
 {
     let answer = note.answer;
@@ -57,6 +79,8 @@ pub(crate) fn note(out: &mut [u64], note: ElfNote) -> u32
             out[0] = pvh_code(said);
             out[1] = pvh_address(said);
             out[2] = note.headers;
+            out[3] = pvh_place(said);
+            out[4] = pvh_size(said);
             0
         }
         NoteAnswer::Refused(refusal) => answers::number(refusal),

@@ -22,8 +22,9 @@ mod options;
 
 // ---- loads
 
-// Loads an ELF image into guest memory. Bit 0 of the flags: an offset is given; bit 1: the start of high memory is. `out` has 4 places:
-// the load address, the kernel's end, PVH (0 ignored, 1 not present, 2 present) and the PVH address or 0.
+// Loads an ELF image into guest memory. Bit 0 of the flags: an offset is given; bit 1: the start of high memory is. `out` has 6 places:
+// the load address, the kernel's end, PVH (0 ignored, 1 not present, 2 present), the PVH address, and the place and the size of the
+// descriptor of the note that gives it; the last three are 0 where there is none.
 #[no_mangle]
 pub extern "C" fn rekusoyen_elf_load(
     guest: &mut [u8],
@@ -35,7 +36,7 @@ pub extern "C" fn rekusoyen_elf_load(
 ) -> u32
     ensures { λ r. ⌜ ElfLoads (now (image .entry)) (offsetOf flags offset) (highmemOf flags highmem) (now (guest .entry)) (now (out .entry)) r (now (guest .exit)) (now (out .exit)) ⌝ }
 {
-    if out.len() != 4 {
+    if out.len() != 6 {
         return answers::number(Refusal::NoRoom);
     }
     let kernel_offset = options::offset(flags, offset);
@@ -44,8 +45,8 @@ pub extern "C" fn rekusoyen_elf_load(
     elf_told::load(out, answer)
 }
 
-// The PVH entry that the notes of p_filesz bytes at p_offset give. `out` has 3 places: PVH and its address as for a load, and how many note
-// headers were read.
+// The PVH entry that the notes of p_filesz bytes at p_offset give. `out` has 5 places: PVH and its address as for a load, how many note
+// headers were read, and the descriptor's place and size.
 #[no_mangle]
 pub extern "C" fn rekusoyen_elf_note(
     image: &[u8],
@@ -55,7 +56,7 @@ pub extern "C" fn rekusoyen_elf_note(
 ) -> u32
     ensures { λ r. ⌜ ElfNotes (now (image .entry)) «p_offset» «p_filesz» (now (out .entry)) r (now (out .exit)) ⌝ }
 {
-    if out.len() != 3 {
+    if out.len() != 5 {
         return answers::number(Refusal::NoRoom);
     }
     let note = elf::parse_elf_note(image, ImagePlace(p_offset), p_filesz);

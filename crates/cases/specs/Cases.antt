@@ -14,7 +14,7 @@ use Rattle.elf.specs.Header.{magic}
 use Rattle.elf.specs.Notes.{xen, publicNote}
 use Rattle.elf.specs.Pouring.{planOf}
 use Rattle.elf.specs.Load.{pvhCode, elfNumber, elfValues, noteNumber, noteValues}
-use Rattle.elf.specs.declared.PvhBootCapability.the-variants.{PvhEntryPresent, PvhEntryIgnored}
+use Rattle.elf.specs.declared.PvhBootCapability.the-variants.{PvhEntryIgnored}
 use Rattle.slugs.specs.Bytes.{space, quote, dash, equals}
 use Rattle.slugs.specs.Splitting.{separator}
 use Rattle.cmdline.specs.Insertion.{callNumber}
@@ -97,11 +97,11 @@ refused r left = record { number = numberOf r; values = []; left = left }
 
 -- load address, end, and PVH ignored
 abbrev loaded : ℕ → ℕ → List ℕ
-loaded load end = load ∷ end ∷ pvhCode PvhEntryIgnored ∷ 0 ∷ []
+loaded load end = load ∷ end ∷ pvhCode PvhEntryIgnored ∷ 0 ∷ 0 ∷ 0 ∷ []
 
--- PVH present at 1048576, one header read
+-- PVH present at 1048576, one header read, the descriptor of 4 bytes at place 16
 abbrev present : List ℕ
-present = 2 ∷ 1048576 ∷ 1 ∷ []
+present = 2 ∷ 1048576 ∷ 1 ∷ 16 ∷ 4 ∷ []
 
 -- foo, bar, a, z and a="x -- y"
 abbrev foo : List ℕ

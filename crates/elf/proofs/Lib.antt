@@ -14,4 +14,5 @@ pub mod Lengthened
 pub mod MoreRoom
 pub mod KernelEnd
 pub mod FileSizeStays
+pub mod FirstNote
 pub mod Outcomes

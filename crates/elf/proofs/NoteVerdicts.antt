@@ -17,14 +17,13 @@ use Rattle.answers.specs.declared.Gate.{Gate}
 use Rattle.answers.specs.declared.Gate.the-variants.{Open, Shut}
 use Rattle.answers.proofs.PickLaws.{pick-with}
 use Rattle.answers.proofs.TestsLaws.{open-all, all-open, shut-first, first-shut}
-use Rattle.fields.specs.Numbers.{le}
 use Rattle.fields.specs.Ranges.{liesWithin}
 use Rattle.fields.specs.Tags.{tagAt}
 use Rattle.fields.proofs.RangesLaws.{within-test}
 use Rattle.guest.specs.Sizes.{allowed}
 use Rattle.guest.specs.declared.ImagePlace.{ImagePlace}
 use Rattle.reading.specs.Notes.{noteHeaderOf}
-use Rattle.elf.specs.Notes.{noteHeaderSize, xen, topSize, noteLength, isWanted, skipOf, turnAt, afterTurn, walkFrom, twelves, walkOf, saidOf, entryOf, told, publicNote}
+use Rattle.elf.specs.Notes.{noteHeaderSize, xen, topSize, noteLength, isWanted, skipOf, turnAt, afterTurn, walkFrom, twelves, walkOf, saidOf, entryOf, told, publicNote, noteAt}
 use Rattle.elf.specs.Load.{noteNumber}
 use Rattle.elf.specs.NoteVerdict.{isPvhNote, noteTests, PassedOver, no-note, one-more, refusedNote, entryAt, noEntry, NoteVerdict, too-long, refused, found, not-found}
 use Rattle.elf.specs.declared.PvhBootCapability.{PvhBootCapability}
@@ -122,7 +121,7 @@ module _ (image : List ℕ) (from size : ℕ) where
       ∙ in-a-row image (record { 0 = p + 16 }) (note .«n_descsz») (noteLength note) j (λ k. walkFrom left image from size (read + k) (suc j)) (entryAt image p (suc j))
       (liesWithin (length image) p noteHeaderSize) (isWanted note) (liesWithin (length image) (p + noteHeaderSize) 4) (tagAt xen image (p + noteHeaderSize))
       (leb 4 (note .«n_descsz»)) (liesWithin (length image) (p + 16) 4) (leb (note .«n_namesz») topSize) (leb (note .«n_descsz») topSize)
-      (told-entry (leb 4 (note .«n_descsz»)) (liesWithin (length image) (p + 16) 4) (pvh.PvhEntryPresent (record { 0 = le 4 image (p + 16) })) (suc j))
+      (told-entry (leb 4 (note .«n_descsz»)) (liesWithin (length image) (p + 16) 4) (pvh.PvhEntryPresent (noteAt image (record { 0 = p + 16 }) (note .«n_descsz»))) (suc j))
 
   told-end : (left j read : ℕ) → size ≤ read → tells image (walkFrom left image from size read j) ≡ noEntry j
   unfolding saidOf told

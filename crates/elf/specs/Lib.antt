@@ -6,6 +6,7 @@ pub mod Pouring
 pub mod Load
 pub mod Verdict
 pub mod Rules
+pub mod FirstNote
 pub mod NoteVerdict
 pub mod ByteRule
 pub mod Lengthening

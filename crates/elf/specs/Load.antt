@@ -21,30 +21,42 @@ LoadSays image offset highmem before r after = Loads (planOf image (memoryOf bef
 unfoldable pub pvhCode : PvhBootCapability → ℕ
 pvhCode PvhEntryIgnored = 0
 pvhCode PvhEntryNotPresent = 1
-pvhCode (PvhEntryPresent address) = 2
+pvhCode (PvhEntryPresent note) = 2
 
 -- its address, 0 where there is none
 unfoldable pub pvhAddress : PvhBootCapability → ℕ
 pvhAddress PvhEntryIgnored = 0
 pvhAddress PvhEntryNotPresent = 0
-pvhAddress (PvhEntryPresent address) = address .0
+pvhAddress (PvhEntryPresent note) = note .entry .0
+
+-- the place and the size of the descriptor of the note found, 0 where there is none
+unfoldable pub pvhPlace : PvhBootCapability → ℕ
+pvhPlace PvhEntryIgnored = 0
+pvhPlace PvhEntryNotPresent = 0
+pvhPlace (PvhEntryPresent note) = note .place .0
+
+unfoldable pub pvhSize : PvhBootCapability → ℕ
+pvhSize PvhEntryIgnored = 0
+pvhSize PvhEntryNotPresent = 0
+pvhSize (PvhEntryPresent note) = note .size
 
 -- the number of a load's answer, 0 where it is accepted
 unfoldable pub elfNumber : Answer → ℕ
 elfNumber (Loaded result) = 0
 elfNumber (Refused r) = numberOf r
 
--- its values: load address, end, and PVH; a refusal has none
+-- its values: load address, end, PVH, and the note that gave it; a refusal has none
 unfoldable pub elfValues : Answer → List ℕ
 elfValues (Loaded result) =
-    result .«kernel_load» .0 ∷ result .«kernel_end» .0 ∷ pvhCode (result .«pvh_boot_cap») ∷ pvhAddress (result .«pvh_boot_cap») ∷ []
+    let said = result .«pvh_boot_cap» in
+    result .«kernel_load» .0 ∷ result .«kernel_end» .0 ∷ pvhCode said ∷ pvhAddress said ∷ pvhPlace said ∷ pvhSize said ∷ []
 elfValues (Refused r) = []
 
--- the same of a note walk: PVH, and the headers that were read
+-- the same of a note walk: PVH, the headers that were read, and the note found
 unfoldable pub noteNumber : NoteAnswer → ℕ
 noteNumber (note.Says said) = 0
 noteNumber (note.Refused r) = numberOf r
 
 unfoldable pub noteValues : NoteAnswer → ℕ → List ℕ
-noteValues (note.Says said) headers = pvhCode said ∷ pvhAddress said ∷ headers ∷ []
+noteValues (note.Says said) headers = pvhCode said ∷ pvhAddress said ∷ headers ∷ pvhPlace said ∷ pvhSize said ∷ []
 noteValues (note.Refused r) headers = []

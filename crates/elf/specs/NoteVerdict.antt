@@ -9,13 +9,12 @@ use Rattle.answers.specs.Pick.{pick}
 use Rattle.answers.specs.Tests.{Test, AllHold, FirstFails}
 use Rattle.answers.specs.declared.Refusal.{Refusal}
 use Rattle.answers.specs.declared.Refusal.the-variants as refusal
-use Rattle.fields.specs.Numbers.{le}
 use Rattle.fields.specs.Ranges.{liesWithin}
 use Rattle.fields.specs.Tags.{tagAt}
 use Rattle.guest.specs.Sizes.{allowed}
 use Rattle.reading.specs.Notes.{noteHeaderOf}
 use Rattle.reading.specs.declared.NoteHeader.{NoteHeader}
-use Rattle.elf.specs.Notes.{noteHeaderSize, xen, isWanted, topSize, noteLength}
+use Rattle.elf.specs.Notes.{noteHeaderSize, xen, isWanted, topSize, noteLength, noteAt}
 use Rattle.elf.specs.declared.PvhBootCapability.the-variants as pvh
 use Rattle.elf.specs.declared.NoteAnswer.the-variants as answer
 use Rattle.elf.specs.declared.ElfNote.{ElfNote}
@@ -53,7 +52,8 @@ refusedNote r = record { answer = answer.Refused r; headers = 0 }
 
 -- the entry that the PVH note at p gives, the j-th note that is read
 abbrev pub entryAt : List ℕ → ℕ → ℕ → ElfNote
-entryAt image p j = record { answer = answer.Says (pvh.PvhEntryPresent (record { 0 = le 4 image (p + 16) })); headers = j }
+entryAt image p j =
+    record { answer = answer.Says (pvh.PvhEntryPresent (noteAt image (record { 0 = p + 16 }) (noteHeaderOf image p .«n_descsz»))); headers = j }
 
 abbrev pub noEntry : ℕ → ElfNote
 noEntry j = record { answer = answer.Says pvh.PvhEntryNotPresent; headers = j }

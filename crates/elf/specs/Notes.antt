@@ -14,6 +14,7 @@ use Rattle.guest.specs.Sizes.{allowed}
 use Rattle.guest.specs.declared.ImagePlace.{ImagePlace}
 use Rattle.reading.specs.Notes.{noteHeaderOf}
 use Rattle.reading.specs.declared.NoteHeader.{NoteHeader}
+use Rattle.elf.specs.declared.PvhNote.{PvhNote}
 use Rattle.elf.specs.declared.PvhBootCapability.the-variants as pvh
 use Rattle.elf.specs.declared.NoteAnswer.{NoteAnswer}
 use Rattle.elf.specs.declared.NoteAnswer.the-variants as answer
@@ -89,12 +90,16 @@ twelves size = (size + 11) / 12
 unfoldable pub walkOf : List ℕ → ImagePlace → ℕ → Walked
 walkOf image from size = walkFrom (twelves size) image (from .0) size 0 0
 
--- what a walk says: of a note found, the number of the first four bytes of its descriptor
+-- the note whose descriptor stands at a place, of this size: the entry is the number of its first four bytes
+abbrev pub noteAt : List ℕ → ImagePlace → ℕ → PvhNote
+noteAt image place size = record { entry = record { 0 = le 4 image (place .0) }; place = place; size = size }
+
+-- what a walk says: of a note found, its entry, and where and how long its descriptor is
 unfoldable pub saidOf : List ℕ → Walk → NoteAnswer
 saidOf image (walk.Found place size) =
     pick (leb 4 size)
     (pick (liesWithin (length image) (place .0) 4)
-    (answer.Says (pvh.PvhEntryPresent (record { 0 = le 4 image (place .0) })))
+    (answer.Says (pvh.PvhEntryPresent (noteAt image place size)))
     (answer.Refused refusal.ReadNoteHeader))
     (answer.Refused refusal.InvalidPvhNote)
 saidOf image walk.NotFound = answer.Says pvh.PvhEntryNotPresent

@@ -14,6 +14,7 @@ use Rattle.guest.specs.declared.Memory.{Memory}
 use Rattle.elf.specs.Header.{e-entry, e-phnum}
 use Rattle.elf.specs.ProgramHeaders.{headerOf}
 use Rattle.elf.specs.Notes.{entryOf}
+use Rattle.elf.specs.declared.PvhBootCapability.{PvhBootCapability}
 use Rattle.elf.specs.declared.PvhBootCapability.the-variants as pvh
 use Rattle.elf.specs.declared.KernelLoaderResult.{KernelLoaderResult}
 use Rattle.elf.specs.declared.Answer.{Answer}
@@ -71,7 +72,13 @@ stepOf image m offset h =
     (loadStep (length image) m (amountOf offset) h)
     (pick (eqb (h .«p_type») 4) (noteStep image offset h) (Pass effect.Nothing))
 
--- the result after one more program header: the end is the greatest so far, and the last note header decides
+-- PVH after one more note header: the first note found holds
+unfoldable pub firstFound : PvhBootCapability → PvhBootCapability → PvhBootCapability
+firstFound (pvh.PvhEntryPresent note) said = pvh.PvhEntryPresent note
+firstFound pvh.PvhEntryNotPresent said = said
+firstFound pvh.PvhEntryIgnored said = said
+
+-- the result after one more program header: the end is the greatest so far, and the first note found holds
 unfoldable pub advanced : KernelLoaderResult → Effect → KernelLoaderResult
 advanced result effect.Nothing = result
 advanced result (effect.EndsAt a) = record {
@@ -79,7 +86,11 @@ advanced result (effect.EndsAt a) = record {
   «kernel_end» = record { 0 = max (result .«kernel_end» .0) (a .0) };
   «pvh_boot_cap» = result .«pvh_boot_cap»;
 }
-advanced result (effect.Pvh said) = record { «kernel_load» = result .«kernel_load»; «kernel_end» = result .«kernel_end»; «pvh_boot_cap» = said }
+advanced result (effect.Pvh said) = record {
+  «kernel_load» = result .«kernel_load»;
+  «kernel_end» = result .«kernel_end»;
+  «pvh_boot_cap» = firstFound (result .«pvh_boot_cap») said;
+}
 
 -- the result before any program header: the end is 0, and PVH is ignored
 abbrev pub blank : GuestAddress → KernelLoaderResult

@@ -28,9 +28,17 @@ mod pouring;
 mod program_headers;
 mod survey;
 
+// The entry point for the PVH boot protocol, and the descriptor of the note that gives it: its place in the image, and its size as the note
+// header has it.
+pub struct PvhNote {
+    pub entry: GuestAddress,
+    pub place: ImagePlace,
+    pub size: u64,
+}
+
 // Is there an entry point for the PVH boot protocol?
 pub enum PvhBootCapability {
-    PvhEntryPresent(GuestAddress),
+    PvhEntryPresent(PvhNote),
     PvhEntryNotPresent,
     PvhEntryIgnored,
 }

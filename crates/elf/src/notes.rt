@@ -16,6 +16,7 @@ ghost use Rattle.elf.specs.Notes.{isWanted, skipOf, turnAt, walkOf, entr
 use crate::ElfNote;
 use crate::NoteAnswer;
 use crate::PvhBootCapability;
+use crate::PvhNote;
 use answers::Refusal;
 use fields::numbers;
 use fields::ranges;
@@ -161,8 +162,13 @@ pub(crate) fn entry(image: &[u8], p_offset: ImagePlace, p_filesz: u64) -> ElfNot
         };
     }
     let address = numbers::read_u32(image, at);
+    let note = PvhNote {
+        entry: GuestAddress(address),
+        place: place,
+        size: size,
+    };
     ElfNote {
-        answer: NoteAnswer::Says(PvhBootCapability::PvhEntryPresent(GuestAddress(address))),
+        answer: NoteAnswer::Says(PvhBootCapability::PvhEntryPresent(note)),
         headers: headers,
     }
 }

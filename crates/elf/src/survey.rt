@@ -12,7 +12,7 @@
 ghost use mathlib.Core.Path.{_≡_};
 ghost use Prim.Native.Nat.{max};
 ghost use Rattle.elf.specs.ProgramHeaders.{HeadersStand};
-ghost use Rattle.elf.specs.Survey.{endStep, segmentStep, memoryStep, kindStep, loadStep, noteStep, stepOf, advanced, blank, surveyFrom};
+ghost use Rattle.elf.specs.Survey.{endStep, segmentStep, memoryStep, kindStep, loadStep, noteStep, stepOf, firstFound, advanced, blank, surveyFrom};
 ghost use Rattle.elf.specs.Pouring.{planOf};
 use crate::Answer;
 use crate::KernelLoaderResult;
@@ -143,6 +143,17 @@ fn greater(a: u64, b: u64) -> u64
     if a < b { b } else { a }
 }
 
+// PVH after one more note header: the first note found holds.
+fn first_found(held: PvhBootCapability, said: PvhBootCapability) -> PvhBootCapability
+    ensures { λ r. ⌜ r ≡ firstFound held said ⌝ }
+{
+    match held {
+        PvhBootCapability::PvhEntryPresent(note) => PvhBootCapability::PvhEntryPresent(note),
+        PvhBootCapability::PvhEntryNotPresent => said,
+        PvhBootCapability::PvhEntryIgnored => said,
+    }
+}
+
 // The result after one more program header.
 fn advance(result: KernelLoaderResult, effect: Effect) -> KernelLoaderResult
     ensures { λ r. ⌜ r ≡ advanced result effect ⌝ }
@@ -160,7 +171,7 @@ fn advance(result: KernelLoaderResult, effect: Effect) -> KernelLoaderResult
         Effect::Pvh(said) => KernelLoaderResult {
             kernel_load: load,
             kernel_end: end,
-            pvh_boot_cap: said,
+            pvh_boot_cap: first_found(pvh, said),
         },
     }
 }

@@ -30,9 +30,12 @@ fn pvh(pvh: PvhBootCapability) {
     match pvh {
         PvhBootCapability::PvhEntryIgnored => telling::word(b" ignored"),
         PvhBootCapability::PvhEntryNotPresent => telling::word(b" none"),
-        PvhBootCapability::PvhEntryPresent(a) => {
+        PvhBootCapability::PvhEntryPresent(note) => {
             telling::word(b" at");
-            telling::number(a.0);
+            telling::number(note.entry.0);
+            telling::word(b" note");
+            telling::number(note.place.0);
+            telling::number(note.size);
         }
     }
 }

@@ -1,6 +1,7 @@
 //! A load as the command does it: the image, then the line.
 
 use rekusoyen::cmdline::Cmdline;
+use rekusoyen::loader::elf::PvhNote;
 use rekusoyen::loader::{load_cmdline_into, BzImage, Elf, KernelLoaderResult};
 use rekusoyen::{GuestAddress, Refusal};
 
@@ -13,6 +14,8 @@ pub const CAPACITY: usize = 4096;
 pub struct Loaded {
     pub format: Format,
     pub kernel: KernelLoaderResult,
+    /// The note that the PVH entry was read from, if there is one.
+    pub note: Option<PvhNote>,
     /// Where the command line went, if there is one.
     pub line: Option<PutLine>,
 }
@@ -53,11 +56,14 @@ pub fn load(guest: &mut [u8], image: &[u8], asked: &Load) -> Result<Loaded, Refu
             line_at,
         }
     };
-    let kernel = match format {
-        Format::BzImage => BzImage::load_into(guest, asked.offset, image, asked.highmem),
-        _ => Elf::load_into(guest, asked.offset, image, asked.highmem),
+    let (offset, highmem) = (asked.offset, asked.highmem);
+    let loaded = match format {
+        Format::BzImage => {
+            BzImage::load_into(guest, offset, image, highmem).map(|kernel| (kernel, None))
+        }
+        _ => Elf::load_into_with_note(guest, offset, image, highmem),
     };
-    let kernel = kernel.map_err(refusal_of).map_err(refused(None))?;
+    let (kernel, note) = loaded.map_err(refusal_of).map_err(refused(None))?;
     let line = match &asked.cmdline {
         None => None,
         Some(text) => {
@@ -69,6 +75,7 @@ pub fn load(guest: &mut [u8], image: &[u8], asked: &Load) -> Result<Loaded, Refu
     Ok(Loaded {
         format,
         kernel,
+        note,
         line,
     })
 }

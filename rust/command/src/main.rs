@@ -113,6 +113,7 @@ fn from_input(name: &str, asked: &Load) -> Result<Answer, Failure> {
             let mut result = String::new();
             if asked.verbose {
                 result += &report::details(loaded.format, &image, asked);
+                result += &report::used_note(&loaded);
             }
             result += &report::result(&loaded);
             let remarks = report::remarks(&loaded, &image, asked);
@@ -147,10 +148,11 @@ fn built_in() -> Answer {
     };
     let loaded = load::load(&mut guest, &image, &asked).expect("the built-in image is a good one");
     Answer::of(format!(
-        "A built-in ELF image of {} bytes and the command line 'quiet', loaded into {} bytes of guest memory:\n\n{}\n{}\n{}\n{}\n",
+        "A built-in ELF image of {} bytes and the command line 'quiet', loaded into {} bytes of guest memory:\n\n{}{}\n{}\n{}\n{}\n",
         image.len(),
         guest.len(),
         report::details(loaded.format, &image, &asked),
+        report::used_note(&loaded),
         report::result(&loaded),
         shown(&guest),
         "Yours: rekusoyen load < IMAGE. More: rekusoyen --help",

@@ -5,6 +5,8 @@
 pub struct Note {
     pub name: String,
     pub kind: u32,
+    /// Where its descriptor begins in the image, and the size that its header gives.
+    pub descriptor: u128,
     pub descriptor_size: u32,
 }
 
@@ -56,6 +58,7 @@ pub fn walk(image: &[u8], p_offset: u64, p_filesz: u64) -> Walked {
                     notes.push(Note {
                         name: "Xen".to_string(),
                         kind: PVH,
+                        descriptor: place + 16,
                         descriptor_size: u32_at(image, place + 4).unwrap_or(0),
                     });
                 }
@@ -98,16 +101,15 @@ fn note_at(image: &[u8], place: u128) -> Result<(Note, u128), Stop> {
     }
     let name = bytes_at(image, place + 12, name_size as usize);
     let name = name.split(|byte| *byte == 0).next().unwrap_or_default();
+    let rounded = |size: u32| u128::from(size).next_multiple_of(4);
+    let descriptor = place + 12 + rounded(name_size);
     let note = Note {
         name: name.escape_ascii().to_string(),
         kind,
+        descriptor,
         descriptor_size,
     };
-    let rounded = |size: u32| u128::from(size).next_multiple_of(4);
-    Ok((
-        note,
-        place + 12 + rounded(name_size) + rounded(descriptor_size),
-    ))
+    Ok((note, descriptor + rounded(descriptor_size)))
 }
 
 /// Up to so many bytes at a place, as far as the image has them.
@@ -129,7 +131,7 @@ fn u32_at(image: &[u8], place: u128) -> Option<u32> {
 #[cfg(test)]
 mod tests {
     use super::*;
-    use rekusoyen::loader::elf::{notes, PvhBootCapability};
+    use rekusoyen::loader::elf::{notes, PvhBootCapability, PvhNote};
     use rekusoyen::{GuestAddress, Refusal};
 
     fn next(seed: &mut u64) -> u64 {
@@ -186,6 +188,13 @@ mod tests {
                     walked.notes.len() as u64,
                     "{image:x?} {place} {size}"
                 );
+                let found = walked.notes.last();
+                let found = found.filter(|_| matches!(walked.stop, Stop::Found(_)));
+                let found = found.map(|note| PvhNote {
+                    place: note.descriptor as u64,
+                    size: note.descriptor_size.into(),
+                });
+                assert_eq!(told.pvh_note, found, "{image:x?} {place} {size}");
             }
             let told = told
                 .map(|told| told.pvh_boot_cap)

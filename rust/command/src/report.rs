@@ -81,6 +81,14 @@ pub fn details(format: Format, image: &[u8], asked: &Load) -> String {
     }
 }
 
+/// The note that the PVH entry of an accepted load was read from, if there is one.
+pub fn used_note(loaded: &Loaded) -> String {
+    loaded.note.map_or(String::new(), |note| {
+        let (size, place) = (note.size, note.place);
+        format!("pvh note: the one with the descriptor of {size} bytes at {place:#x}\n")
+    })
+}
+
 fn elf_details(image: &[u8], asked: &Load) -> String {
     let mut text = String::new();
     for (i, segment) in segments(image).enumerate() {
@@ -164,8 +172,8 @@ fn note_details(image: &[u8], segment: &Segment) -> String {
     for (i, note) in walked.notes.iter().enumerate() {
         let _ = writeln!(
             text,
-            "  note {i}: '{}' of type {}, descriptor of {} bytes",
-            note.name, note.kind, note.descriptor_size
+            "  note {i}: '{}' of type {}, descriptor of {} bytes at {:#x}",
+            note.name, note.kind, note.descriptor_size, note.descriptor
         );
     }
     let _ = match walked.stop {

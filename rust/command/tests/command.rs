@@ -454,6 +454,26 @@ fn verbose_shows_segments_notes_and_parts() {
         "segment 0: notes, 0 bytes at 0x78, not read since there is an offset\nload 32\nend 0\npvh ignored\n",
         OFFSET,
     );
+    // two note segments, of which the first has the PVH note and the second another
+    let mut notes = elf_with(b"\x04\0\0\0\x04\0\0\0\x12\0\0\0Xen\0\0\0\x10\0");
+    let mut second = notes[64..120].to_vec();
+    notes[56] = 2;
+    notes[72] = 176;
+    (second[8], second[32]) = (196, 12);
+    notes.splice(120..120, second);
+    notes.extend(b"\0\0\0\0\0\0\0\0\x01\0\0\0");
+    accepted(
+        &["load", "--verbose"],
+        &notes,
+        "segment 0: notes, 20 bytes at 0xb0\n  \
+         note 0: 'Xen' of type 18, descriptor of 4 bytes at 0xc0\n  \
+         pvh entry 0x100000\n\
+         segment 1: notes, 12 bytes at 0xc4\n  \
+         note 0: '' of type 1, descriptor of 0 bytes at 0xd0\n  \
+         no pvh entry\n\
+         pvh note: the one with the descriptor of 4 bytes at 0xc0\n\
+         load 16\nend 0\npvh 1048576\n",
+    );
     accepted(
         &["load", "--verbose"],
         &bzimage(),
@@ -473,7 +493,8 @@ fn without_words_a_built_in_image_is_loaded() {
     let run = run(&[], b"");
     assert_eq!((run.err.as_str(), run.status), ("", Some(0)));
     for shown in [
-        "  note 0: 'Xen' of type 18, descriptor of 4 bytes\n  pvh entry 0x20\n",
+        "  note 0: 'Xen' of type 18, descriptor of 4 bytes at 0xc6\n  pvh entry 0x20\n",
+        "pvh note: the one with the descriptor of 4 bytes at 0xc6\n",
         "load 32\nend 48\npvh 32\ncmdline 48\n",
         "guest 0x20  kernel..........\nguest 0x30  quiet\\x00..........\n",
     ] {

@@ -123,12 +123,26 @@ fn pvh(code: u64, address: u64) -> PvhBootCapability {
     }
 }
 
+/// The note that the PVH entry was read from.
+#[derive(Clone, Copy, Debug, PartialEq, Eq)]
+pub struct PvhNote {
+    /// Where its descriptor begins in the image.
+    pub place: u64,
+    /// How many bytes the descriptor has, as the note's header says.
+    pub size: u64,
+}
+
+/// The note, where there is an entry.
+fn pvh_note(code: u64, place: u64, size: u64) -> Option<PvhNote> {
+    (code == entry::PVH_PRESENT).then(|| PvhNote { place, size })
+}
+
 /// Raw ELF (a.k.a. vmlinux) kernel image support.
 pub struct Elf;
 
 impl Elf {
     /// Loads an image into guest memory, which begins at guest address 0. Each segment goes to its address, moved by the offset
-    /// if one is given; with an offset the PVH entry is ignored. A refusal changes nothing.
+    /// if one is given; with an offset the PVH entry is ignored, and without the first PVH note found gives it. A refusal changes nothing.
     ///
     /// ```
     /// use rekusoyen::loader::elf::{Elf, Error, PvhBootCapability};
@@ -159,6 +173,37 @@ impl Elf {
         kernel_image: &[u8],
         highmem_start_address: Option<GuestAddress>,
     ) -> Result<KernelLoaderResult> {
+        let loaded =
+            Elf::load_into_with_note(guest, kernel_offset, kernel_image, highmem_start_address);
+        loaded.map(|(kernel, _)| kernel)
+    }
+
+    /// Loads an image as [`load_into`](Elf::load_into) does, and says which note the PVH entry was read from, if there is one: it is the
+    /// first PVH note of the first note segment that has any.
+    ///
+    /// ```
+    /// use rekusoyen::loader::elf::{Elf, PvhBootCapability, PvhNote};
+    /// use rekusoyen::GuestAddress;
+    ///
+    /// // one segment of notes: the 20 bytes at 120
+    /// let mut image = [0u8; 120].to_vec();
+    /// image[..6].copy_from_slice(b"\x7fELF\x02\x01");
+    /// for (place, value) in [(32, 64), (54, 56), (56, 1), (64, 4), (72, 120), (96, 20)] {
+    ///     image[place] = value;
+    /// }
+    /// image.extend(*b"\x04\0\0\0\x04\0\0\0\x12\0\0\0Xen\0\0\0\x10\0");
+    ///
+    /// let (kernel, note) = Elf::load_into_with_note(&mut [], None, &image, None)?;
+    /// assert_eq!(kernel.pvh_boot_cap, PvhBootCapability::PvhEntryPresent(GuestAddress(0x100000)));
+    /// assert_eq!(note, Some(PvhNote { place: 136, size: 4 }));
+    /// # Ok::<(), rekusoyen::loader::Error>(())
+    /// ```
+    pub fn load_into_with_note(
+        guest: &mut [u8],
+        kernel_offset: Option<GuestAddress>,
+        kernel_image: &[u8],
+        highmem_start_address: Option<GuestAddress>,
+    ) -> Result<(KernelLoaderResult, Option<PvhNote>)> {
         let options = Options {
             offset: kernel_offset,
             highmem: highmem_start_address,
@@ -167,15 +212,20 @@ impl Elf {
     }
 }
 
-pub(super) fn load(guest: Guest, image: &[u8], options: Options) -> Result<KernelLoaderResult> {
-    let [kernel_load, kernel_end, code, address] =
+pub(super) fn load(
+    guest: Guest,
+    image: &[u8],
+    options: Options,
+) -> Result<(KernelLoaderResult, Option<PvhNote>)> {
+    let [kernel_load, kernel_end, code, address, place, size] =
         lent::elf_load(guest, image, options).map_err(told::by_elf)?;
-    Ok(KernelLoaderResult {
+    let kernel = KernelLoaderResult {
         kernel_load: GuestAddress(kernel_load),
         kernel_end,
         pvh_boot_cap: pvh(code, address),
         setup_header: None,
-    })
+    };
+    Ok((kernel, pvh_note(code, place, size)))
 }
 
 /// What a walk over notes finds.
@@ -183,6 +233,8 @@ pub(super) fn load(guest: Guest, image: &[u8], options: Options) -> Result<Kerne
 pub struct Notes {
     /// The PVH entry that they give.
     pub pvh_boot_cap: PvhBootCapability,
+    /// The note that gives it.
+    pub pvh_note: Option<PvhNote>,
     /// How many note headers were read.
     pub headers: u64,
 }
@@ -190,21 +242,23 @@ pub struct Notes {
 /// Walks the notes of `p_filesz` bytes at `p_offset` of an image, as a load does for a note segment.
 ///
 /// ```
-/// use rekusoyen::loader::elf::{notes, PvhBootCapability};
+/// use rekusoyen::loader::elf::{notes, PvhBootCapability, PvhNote};
 /// use rekusoyen::GuestAddress;
 ///
 /// // sizes of name and descriptor, type, name, descriptor
 /// let image = *b"\x04\0\0\0\x04\0\0\0\x12\0\0\0Xen\0\0\0\x10\0";
 /// let found = notes(&image, 0, 20)?;
 /// assert_eq!(found.pvh_boot_cap, PvhBootCapability::PvhEntryPresent(GuestAddress(0x100000)));
+/// assert_eq!(found.pvh_note, Some(PvhNote { place: 16, size: 4 }));
 /// assert_eq!(found.headers, 1);
 /// # Ok::<(), rekusoyen::loader::Error>(())
 /// ```
 pub fn notes(image: &[u8], p_offset: u64, p_filesz: u64) -> Result<Notes> {
-    let [code, address, headers] =
+    let [code, address, headers, place, size] =
         lent::elf_note(image, p_offset, p_filesz).map_err(told::by_elf)?;
     Ok(Notes {
         pvh_boot_cap: pvh(code, address),
+        pvh_note: pvh_note(code, place, size),
         headers,
     })
 }

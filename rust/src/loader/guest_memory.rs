@@ -46,7 +46,7 @@ impl KernelLoader for Elf {
         };
         lend(
             guest_mem,
-            |guest| elf::load(guest, &image, options),
+            |guest| elf::load(guest, &image, options).map(|(kernel, _)| kernel),
             |_| segment_parts(&image, options),
         )
     }

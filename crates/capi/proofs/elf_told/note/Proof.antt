@@ -1,13 +1,23 @@
 -- `elf_told::note`: what is said is stored value by value; a refusal stores nothing.
 use borrow.Author.Needs.{needs}
 use mathlib.Core.Path.{refl}
+use native.Mathlib.Omega.{arith}
+use lib.ListN.{length-set}
 use Rattle.elf.specs.Load.{noteNumber, noteValues}
 use Rattle.capi.proofs.elf_told.note.Statement.{statement}
 use Rattle.capi.proofs.elf_told.note.Tie as tie
 
+slice-write-out-5 : tie.Need-slice-write-out-5
+slice-write-out-5 c = simp length-set (omega (arith, c .before .before .before .before .before .before .before .before .pre))
+
 returns : tie.Need-returns
 unfolding noteNumber noteValues
-returns c = rw (c .before .before .before .answer .given .1) (record { answer = refl; told = rw (c .before .pvh-code .ensures, c .pvh-address .ensures) })
+returns c =
+    rw (c .before .before .before .before .before .answer .given .1)
+    (record {
+      answer = refl;
+      told = rw (c .before .before .before .pvh-code .ensures, c .before .before .pvh-address .ensures, c .before .pvh-place .ensures, c .pvh-size .ensures);
+    })
 
 returns-2 : tie.Need-returns-2
 unfolding noteNumber noteValues
@@ -23,6 +33,10 @@ note-spec =
     (λ c κs. search needs)
     (λ c. search needs)
     (λ c. search needs)
+    (λ c κs. search needs)
+    (λ c. search needs)
+    (λ c κs. search needs)
+    slice-write-out-5
     (λ c. search needs)
     (λ c κs. search needs)
     (λ c. search needs)

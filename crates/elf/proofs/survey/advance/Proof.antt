@@ -15,7 +15,7 @@ returns-2 c = rw (c .before .before .effect .given .1, c .greater .ensures)
 
 returns-3 : tie.Need-returns-3
 unfolding advanced
-returns-3 c = rw (c .before .effect2 .given .1)
+returns-3 c = rw (c .before .before .effect2 .given .1, c .first-found .ensures)
 
 pub advance-spec : {M : Type 1} → statement M
 advance-spec =
@@ -25,6 +25,7 @@ advance-spec =
     (λ c. search needs)
     (λ c κs. search needs)
     (λ c. search needs)
+    (λ c κs. search needs)
     returns
     returns-2
     returns-3)
