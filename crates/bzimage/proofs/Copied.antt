@@ -1,7 +1,7 @@
 -- The sentence "the image bytes from the setup size on are the kernel, copied to the load address, all else untouched": after an accepted
 -- load each byte of guest memory is the kernel's byte that covers it, or as it was; after a refused one every byte is as it was.
-use Prim.Native.Nat.{ℕ, _+_, _-_, _≤_, _<_}
-use mathlib.Core.Path.{_≡_, sym, _∙_, ap, subst⁻¹}
+use Prim.Native.Nat.{ℕ, _+_, _-_, _<_}
+use mathlib.Core.Path.{_≡_, sym, _∙_, ap}
 use mathlib.Core.Bool.{true}
 use mathlib.Core.List.{List}
 use native.Mathlib.Omega.{arith}
@@ -18,7 +18,7 @@ use Rattle.bzimage.specs.declared.Answer.the-variants.{Loaded, Refused}
 use Rattle.bzimage.specs.declared.KernelLoaderResult.{KernelLoaderResult}
 use Rattle.bzimage.specs.declared.Outcome.{Outcome}
 use Rattle.bzimage.specs.Copied.{Copied}
-use Rattle.bzimage.specs.Kernel.{setupSize, kernelSize, kernelOf, loadOf}
+use Rattle.bzimage.specs.Kernel.{setupSize, kernelOf}
 use Rattle.bzimage.specs.Plan.{planOf, KernelLoads}
 use Rattle.bzimage.proofs.KernelLaws.{length-kernel, kernel-place}
 use Rattle.bzimage.proofs.PlanLaws.{hold-room, plan-loaded, loaded-plan, refused-plan}

@@ -6,12 +6,10 @@ use mathlib.Core.Bool.{true}
 use mathlib.Core.List.{List, [], _∷_, _++_}
 use native.Mathlib.Omega.{arith}
 use lib.ListN.{length}
-use Rattle.answers.specs.Tests.{AllHold}
 use Rattle.answers.specs.Keeping.{same, Widens, end, grows}
 use Rattle.answers.proofs.KeepingLaws.{widens-append, widens-same}
 use Rattle.guest.specs.declared.Given.{Given}
 use Rattle.guest.specs.declared.Memory.{Memory}
-use Rattle.guest.specs.Lent.{lentTests}
 use Rattle.guest.specs.Loading.{RefusedFor}
 use Rattle.guest.specs.Room.{room, Grows, memoryOf}
 use Rattle.guest.specs.Sizes.{allowed, longest}
@@ -21,7 +19,7 @@ use Rattle.guest.proofs.StreamLaws.{inside-at}
 use Rattle.guest.proofs.LoadingLaws.{load-kept, behind-inside, behind-keeps}
 use Rattle.bzimage.specs.declared.Outcome.{Outcome}
 use Rattle.bzimage.specs.Kernel.{kernelSize, kernelOf, loadOf}
-use Rattle.bzimage.specs.Plan.{imageTests, roomTests, tests, refusedAs, kernelPlan, planOf, ForRoom, KernelLoads}
+use Rattle.bzimage.specs.Plan.{imageTests, tests, refusedAs, kernelPlan, planOf, ForRoom, KernelLoads}
 use Rattle.bzimage.proofs.KernelLaws.{length-kernel}
 use Rattle.bzimage.proofs.PlanLaws.{room-for-grows, hold-room}
 

@@ -1,5 +1,5 @@
 -- Laws of the plan, which the functions' proofs and the theorems cite.
-use Prim.Native.Nat.{ℕ, zero, suc, _+_, _^_, _≤_, _<_}
+use Prim.Native.Nat.{ℕ, zero, suc, _+_, _^_, _<_}
 use mathlib.Core.Path.{_≡_, sym, _∙_, refl, ap, subst}
 use mathlib.Core.Bool.{Bool, true, false}
 use mathlib.Core.List.{List, _++_}
@@ -18,7 +18,7 @@ use Rattle.guest.specs.declared.GuestAddress.{GuestAddress}
 use Rattle.guest.specs.declared.Memory.{Memory}
 use Rattle.guest.specs.Addresses.{givenOr}
 use Rattle.guest.specs.Lent.{lentTests}
-use Rattle.guest.specs.Loading.{Plan, Loads, refusedPlan}
+use Rattle.guest.specs.Loading.{Plan, refusedPlan}
 use Rattle.guest.specs.Room.{room, memoryOf, Grows}
 use Rattle.guest.specs.Stream.{bytesAt, pour, streamAt}
 use Rattle.guest.proofs.RoomLaws.{room-size}
@@ -26,7 +26,7 @@ use Rattle.guest.proofs.LoadingLaws.{tests-open, tests-shut, all-planned, first
 use Rattle.bzimage.specs.declared.Answer.the-variants.{Loaded, Refused}
 use Rattle.bzimage.specs.declared.KernelLoaderResult.{KernelLoaderResult}
 use Rattle.bzimage.specs.declared.Outcome.{Outcome}
-use Rattle.bzimage.specs.Kernel.{setupSize, kernelSize, kernelOf, startOf, loadOf}
+use Rattle.bzimage.specs.Kernel.{setupSize, kernelSize, startOf, loadOf}
 use Rattle.bzimage.specs.Plan.{imageTests, roomFor, roomTests, tests, loadedAs, loadedAt, refusedAs, kernelPlan, planOf, KernelLoads}
 use Rattle.bzimage.proofs.KernelLaws.{kernel-bytes}
 

@@ -1,7 +1,7 @@
 -- "Demand 3 counts 14 among the refusals that more room does not lift": a segment with more bytes in the file than in memory is refused the
 -- same, however much longer guest memory, the image, or both are.
 use Prim.Native.Nat.{ℕ, _≤_}
-use mathlib.Core.Path.{_≡_, sym, _∙_, subst}
+use mathlib.Core.Path.{_≡_, sym, _∙_}
 use mathlib.Core.List.{List, _++_}
 use native.Mathlib.Omega.{arith}
 use lib.ListN.{length}

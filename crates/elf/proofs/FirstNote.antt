@@ -3,17 +3,16 @@
 -- rules of every header (EveryRule).
 use Prim.Native.Nat.{ℕ, zero, suc, _+_, _≤_, _<_}
 use mathlib.Core.Path.{_≡_, sym, _∙_, refl, ap, subst}
-use mathlib.Core.Bool.{true, false}
+use mathlib.Core.Bool.{false}
 use mathlib.Core.List.{List}
 use native.Mathlib.Omega.{arith}
 use native.Mathlib.Decide.{decLe}
-use borrow.Author.Tests.{eqb-true, eqb-false, eq-eqb, ne-eqb}
+use borrow.Author.Tests.{eqb-true, eq-eqb, ne-eqb}
 use lib.ListN.{length}
 use Rattle.answers.specs.Pick.{pick}
 use Rattle.answers.specs.declared.Refusal.{Refusal}
 use Rattle.answers.proofs.PickLaws.{pick-with}
 use Rattle.guest.specs.Addresses.{amountOf, isGiven}
-use Rattle.guest.specs.Loading.{Plan}
 use Rattle.guest.specs.Room.{memoryOf}
 use Rattle.guest.specs.declared.Given.{Given}
 use Rattle.guest.specs.declared.Memory.{Memory}
@@ -21,7 +20,6 @@ use Rattle.elf.specs.Header.{e-phnum}
 use Rattle.elf.specs.ProgramHeaders.{headerOf}
 use Rattle.elf.specs.Notes.{entryOf}
 use Rattle.elf.specs.Survey.{endStep, segmentStep, memoryStep, kindStep, loadStep, saidStep, noteStep, stepOf, firstFound, advanced, blank, afterStep, surveyFrom, loadAddress, surveyOf}
-use Rattle.elf.specs.Pouring.{planOf}
 use Rattle.elf.specs.Load.{LoadSays}
 use Rattle.elf.specs.Verdict.{stepAt, Accepted, is-accepted}
 use Rattle.elf.specs.FirstNote.{GivesNote, GivesNone, FirstGives, Absent, not-present, ignored}

@@ -1,7 +1,7 @@
 -- The kernel end of an accepted load lies behind the memory of every loadable segment, one of memory alone among them: what is put at the
 -- end does not fall into memory that the kernel will clear.
 use Prim.Native.Nat.{ℕ, zero, suc, _+_, _≤_, _<_}
-use mathlib.Core.Path.{_≡_, sym, _∙_, refl, ap, subst}
+use mathlib.Core.Path.{_≡_, sym, _∙_, subst}
 use mathlib.Core.List.{List}
 use native.Mathlib.Omega.{arith}
 use native.Mathlib.Decide.{decLe}
@@ -17,12 +17,12 @@ use Rattle.guest.specs.declared.GuestAddress.{GuestAddress}
 use Rattle.guest.specs.declared.Memory.{Memory}
 use Rattle.elf.specs.Header.{e-phnum}
 use Rattle.elf.specs.ProgramHeaders.{headerOf}
-use Rattle.elf.specs.Survey.{endStep, segmentStep, memoryStep, kindStep, loadStep, stepOf, advanced, blank, afterStep, surveyFrom, loadAddress, surveyOf}
+use Rattle.elf.specs.Survey.{endStep, segmentStep, memoryStep, kindStep, loadStep, stepOf, advanced, blank, afterStep, surveyFrom, loadAddress}
 use Rattle.elf.specs.Load.{LoadSays}
 use Rattle.elf.specs.Verdict.{stepAt, Accepted, is-accepted}
 use Rattle.elf.specs.declared.KernelLoaderResult.{KernelLoaderResult}
 use Rattle.elf.specs.declared.Answer.{Answer}
-use Rattle.elf.specs.declared.Answer.the-variants.{Loaded, Refused}
+use Rattle.elf.specs.declared.Answer.the-variants.{Loaded}
 use Rattle.elf.specs.declared.program_headers.ProgramHeader.{ProgramHeader}
 use Rattle.elf.specs.declared.survey.Effect.{Effect}
 use Rattle.elf.specs.declared.survey.Effect.the-variants as effect

@@ -4,7 +4,6 @@ use Prim.Native.Nat.{ℕ}
 use mathlib.Core.Path.{_≡_, sym, ap, _∙_}
 use mathlib.Core.List.{List, _∷_}
 use Rattle.guest.specs.Room.{memoryOf}
-use Rattle.guest.specs.Stream.{pour}
 use Rattle.cmdline.specs.Text.{Text}
 use Rattle.cmdline.specs.Calls.{tells, told, calling}
 use Rattle.loader.specs.declared.Answer.{Answer}

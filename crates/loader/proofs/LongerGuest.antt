@@ -18,7 +18,7 @@ use Rattle.guest.proofs.StreamLaws.{inside-at}
 use Rattle.guest.proofs.LoadingLaws.{load-kept, behind-inside, behind-keeps}
 use Rattle.loader.specs.declared.Answer.{Answer}
 use Rattle.loader.specs.declared.Answer.the-variants.{Refused}
-use Rattle.loader.specs.Lines.{lineBytes, textRow, roomRow, tests, linePlan, planOf, ForRoom, LineLoads}
+use Rattle.loader.specs.Lines.{lineBytes, textRow, tests, linePlan, planOf, ForRoom, LineLoads}
 use Rattle.loader.proofs.LinesLaws.{hold-room}
 
 module _ (t : Text) (m : Memory) (address : ℕ) where

@@ -1,6 +1,5 @@
 -- `load_texts`: the tests in their order, and where they are open, the line is stored in the part of memory at its address.
 use borrow.Author.Needs.{needs}
-use lib.ListN.{length}
 use Rattle.cmdline.specs.Writing.{bare}
 use Rattle.guest.specs.Room.{memoryOf}
 use Rattle.guest.proofs.PartLaws.{part-clipped}
