@@ -17,6 +17,7 @@
 int main(void)
 {
     static uint8_t line[REKUSOYEN_LINE_SIZE];
+    const uint64_t map[] = {0, SIZE}; /* one range: guest memory has no hole */
     uint64_t told[REKUSOYEN_ELF_LOAD_OUT];
     uint8_t *image = malloc(SIZE), *guest = calloc(SIZE, 1);
     if (image == NULL || guest == NULL)
@@ -27,13 +28,14 @@ int main(void)
         return 1;
     }
 
-    uint32_t answer = rekusoyen_elf_load(guest, SIZE, image, image_len, 0, 0, 0, told, REKUSOYEN_ELF_LOAD_OUT);
+    uint32_t answer = rekusoyen_elf_load(
+        guest, SIZE, map, 2, image, image_len, 0, 0, 0, told, REKUSOYEN_ELF_LOAD_OUT);
     if (answer == REKUSOYEN_ACCEPTED)
         answer = rekusoyen_line_new(line, sizeof line, 256);
     if (answer == REKUSOYEN_ACCEPTED)
         answer = rekusoyen_line_insert(line, sizeof line, (const uint8_t *)"console", 7, (const uint8_t *)"ttyS0", 5);
     if (answer == REKUSOYEN_ACCEPTED)
-        answer = rekusoyen_line_load(guest, SIZE, LINE_ADDRESS, line, sizeof line);
+        answer = rekusoyen_line_load(guest, SIZE, map, 2, LINE_ADDRESS, line, sizeof line);
     if (answer != REKUSOYEN_ACCEPTED) {
         fprintf(stderr, "example: refused, %" PRIu32 " %s: %s\n",
                 answer, rekusoyen_answer_name(answer), rekusoyen_answer_sentence(answer));

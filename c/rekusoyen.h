@@ -48,7 +48,7 @@ enum rekusoyen_answer {
     REKUSOYEN_READ_ELF_HEADER = 7,                 /* the image has fewer than 64 bytes */
     REKUSOYEN_READ_PROGRAM_HEADER = 8,             /* the program headers pass the image */
     REKUSOYEN_INVALID_PROGRAM_HEADER_ADDRESS = 9,  /* offset + p_paddr is 2^64 or more */
-    REKUSOYEN_READ_KERNEL_IMAGE = 10,              /* a segment's bytes pass the image or guest memory */
+    REKUSOYEN_READ_KERNEL_IMAGE = 10,              /* a segment's bytes pass the image, or lie within no range of guest memory */
     REKUSOYEN_READ_NOTE_HEADER = 11,               /* a note passes the image */
     REKUSOYEN_INVALID_PVH_NOTE = 12,               /* the PVH note's descriptor has fewer than 4 bytes */
     REKUSOYEN_MEMORY_OVERFLOW = 13,                /* a segment's address + p_memsz is 2^64 or more */
@@ -58,11 +58,11 @@ enum rekusoyen_answer {
     REKUSOYEN_INVALID_BZ_IMAGE = 21,               /* not a bzImage of protocol 2.00 or later that is loaded high */
     REKUSOYEN_UNDERFLOW = 22,                      /* the image ends before its setup does */
     REKUSOYEN_INVALID_KERNEL_START_ADDRESS = 23,   /* code32_start is below the start of high memory */
-    REKUSOYEN_READ_BZ_IMAGE_COMPRESSED_KERNEL = 24, /* the kernel passes guest memory */
+    REKUSOYEN_READ_BZ_IMAGE_COMPRESSED_KERNEL = 24, /* the kernel lies within no range of guest memory */
 
     /* a line put into guest memory */
     REKUSOYEN_INVALID_COMMAND_LINE = 31,           /* writing it is refused for its text */
-    REKUSOYEN_COMMAND_LINE_OVERFLOW = 32,          /* it and its zero pass guest memory */
+    REKUSOYEN_COMMAND_LINE_OVERFLOW = 32,          /* it and its zero lie within no range of guest memory */
 
     /* a line built */
     REKUSOYEN_INVALID_CAPACITY = 41,               /* capacity not 1 to 4096, text too long for it, or bytes that hold no line */
@@ -82,7 +82,8 @@ enum rekusoyen_answer {
     /* limits of what is lent */
     REKUSOYEN_SLICE_TOO_LONG = 60,                 /* an image or guest memory of more than 2^40 bytes */
     REKUSOYEN_BAD_LIST = 61,                       /* ends that fall, or of which the last is not the length of the values */
-    REKUSOYEN_NO_ROOM = 62                         /* a buffer that has not its one size, or an output too short for the line */
+    REKUSOYEN_NO_ROOM = 62,                        /* a buffer that has not its one size, or an output too short for the line */
+    REKUSOYEN_BAD_MAP = 77                         /* a map that is not good: see the map of guest memory below */
 };
 
 /* Every answer with what it means: ROW(NAME, SENTENCE), the name without its prefix. For tables of a program's own. */
@@ -121,7 +122,8 @@ enum rekusoyen_answer {
     ROW(NULL_TERMINATOR, "The line has a zero byte.") \
     ROW(SLICE_TOO_LONG, "The image or guest memory has more than 2^40 bytes.") \
     ROW(BAD_LIST, "A list of ends is not rising, or does not end where the values do.") \
-    ROW(NO_ROOM, "A lent output has no room, or another size than it must have.")
+    ROW(NO_ROOM, "A lent output has no room, or another size than it must have.") \
+    ROW(BAD_MAP, "A map is not good: its ranges must be 16 at most, not empty, rising, not touching, and within guest memory.")
 
 /* The name of an answer without its prefix, as "READ_KERNEL_IMAGE"; NULL of a number that no function answers. */
 static inline const char *rekusoyen_answer_name(uint32_t answer)
@@ -147,9 +149,10 @@ static inline const char *rekusoyen_answer_sentence(uint32_t answer)
 
 /*
  * The stack that a call uses at the most, beside what memcpy and memset themselves use: a load of an image or a note walk, and
- * a call on a line. Measured on x86-64, each uses less than 640 bytes.
+ * a call on a line. Measured on x86-64, a load of an image or of a line, which keep the map there, uses less than 1,408 bytes, and every
+ * other call less than 640.
  */
-#define REKUSOYEN_LOAD_STACK_SIZE ((size_t)1024)
+#define REKUSOYEN_LOAD_STACK_SIZE ((size_t)2048)
 #define REKUSOYEN_LINE_STACK_SIZE ((size_t)4096)
 
 /* ---- loads */
@@ -173,9 +176,24 @@ static inline const char *rekusoyen_answer_sentence(uint32_t answer)
 #define REKUSOYEN_LONGEST_SLICE ((uint64_t)1 << 40)
 
 /*
+ * Guest memory is a slice, whose first byte is at guest address 0, and a map of it: the ranges of the slice in which there is memory.
+ * All else is a hole, and no call changes a byte there. A map is a list of numbers: the start of a range and its size in bytes, the start
+ * and the size of the next, and so on. A map is good where
+ *   - it has 0 to REKUSOYEN_MAP_RANGES ranges, of two numbers each;
+ *   - no range is empty, and each ends within the slice;
+ *   - each begins behind the end of the one before, with a byte or more between them: ranges that touch are one range.
+ * Guest memory without holes has the one range of start 0 and size guest_len, and no range where guest_len is 0. No range over a slice
+ * that is not empty is a good map, too, in which nothing has room.
+ *
+ * Bytes have room at an address where all of them lie within one range.
+ */
+#define REKUSOYEN_MAP_RANGES 16
+
+/*
  * Loads an ELF image into guest memory.
  *
  *   guest    guest memory, its first byte at guest address 0
+ *   map      its ranges
  *   image    the whole file
  *   flags    which of offset and highmem are given
  *   offset   where given, it is added to every segment's p_paddr and to the load address
@@ -196,6 +214,7 @@ static inline const char *rekusoyen_answer_sentence(uint32_t answer)
  * Refusals:
  *   NO_ROOM                           out_len is not REKUSOYEN_ELF_LOAD_OUT
  *   SLICE_TOO_LONG                    image_len or guest_len is above REKUSOYEN_LONGEST_SLICE
+ *   BAD_MAP                           the map is not good
  *   READ_ELF_HEADER                   image_len is below 64
  *   INVALID_ELF_MAGIC_NUMBER, BIG_ENDIAN_ELF_ON_LITTLE, INVALID_PROGRAM_HEADER_SIZE, INVALID_PROGRAM_HEADER_OFFSET
  *   INVALID_ENTRY_ADDRESS             highmem is given, and e_entry is below it
@@ -204,7 +223,7 @@ static inline const char *rekusoyen_answer_sentence(uint32_t answer)
  * and then of each program header in turn, of a loadable one that is not empty in both sizes:
  *   INVALID_PROGRAM_HEADER_FILE_SIZE  p_filesz is above p_memsz
  *   INVALID_PROGRAM_HEADER_ADDRESS    offset + p_paddr is 2^64 or more
- *   READ_KERNEL_IMAGE                 p_filesz is above 0, and its bytes pass the image, or at their address guest memory
+ *   READ_KERNEL_IMAGE                 p_filesz is above 0, and its bytes pass the image, or have no room at their address
  *   MEMORY_OVERFLOW                   its address + p_memsz is 2^64 or more
  * and of one with notes, where no offset is given: READ_NOTE_HEADER, OVERFLOW and INVALID_PVH_NOTE as of rekusoyen_elf_note.
  *
@@ -213,6 +232,7 @@ static inline const char *rekusoyen_answer_sentence(uint32_t answer)
  */
 uint32_t rekusoyen_elf_load(
     uint8_t *guest, size_t guest_len,
+    const uint64_t *map, size_t map_len,
     const uint8_t *image, size_t image_len,
     uint32_t flags, uint64_t offset, uint64_t highmem,
     uint64_t *out, size_t out_len);
@@ -248,6 +268,7 @@ uint32_t rekusoyen_elf_note(
  * Loads the kernel of a bzImage into guest memory. Image bytes past its end count as 0 where the setup header is read.
  *
  *   guest    guest memory, its first byte at guest address 0
+ *   map      its ranges
  *   image    the whole file
  *   flags    which of offset and highmem are given
  *   offset   where given, it is the load address, in place of the image's code32_start
@@ -260,11 +281,12 @@ uint32_t rekusoyen_elf_note(
  * Refusals:
  *   NO_ROOM                         out_len is not REKUSOYEN_BZIMAGE_LOAD_OUT, or header_len is not REKUSOYEN_SETUP_HEADER_SIZE
  *   SLICE_TOO_LONG                  image_len or guest_len is above REKUSOYEN_LONGEST_SLICE
+ *   BAD_MAP                         the map is not good
  *   INVALID_BZ_IMAGE                the 4 bytes at 202 hex are not HdrS, or the version at 206 hex is below 0200 hex, or bit 0
  *                                   of loadflags at 211 hex is 0
  *   UNDERFLOW                       the image is shorter than its setup
  *   INVALID_KERNEL_START_ADDRESS    highmem is given, and code32_start is below it
- *   READ_BZ_IMAGE_COMPRESSED_KERNEL the kernel has a byte or more, and at the load address it passes guest memory
+ *   READ_BZ_IMAGE_COMPRESSED_KERNEL the kernel has a byte or more, and has no room at the load address
  *
  * Leaves, accepted: in guest the kernel from the load address on (nothing where it has no bytes); in out the two values; in
  * header the bytes of the image from 1F1 hex on, but in code32_start the low 32 bits of the load address, least byte first.
@@ -272,6 +294,7 @@ uint32_t rekusoyen_elf_note(
  */
 uint32_t rekusoyen_bzimage_load(
     uint8_t *guest, size_t guest_len,
+    const uint64_t *map, size_t map_len,
     const uint8_t *image, size_t image_len,
     uint32_t flags, uint64_t offset, uint64_t highmem,
     uint64_t *out, size_t out_len,
@@ -487,6 +510,7 @@ uint32_t rekusoyen_line_equal(
  * Writes the line into guest memory, as rekusoyen_line_as_cstring writes it.
  *
  *   guest    guest memory, its first byte at guest address 0
+ *   map      its ranges
  *   address  where the text begins
  *   line     a line
  *
@@ -494,13 +518,15 @@ uint32_t rekusoyen_line_equal(
  *   NO_ROOM                line_len is not REKUSOYEN_LINE_SIZE
  *   INVALID_CAPACITY       the bytes hold no line
  *   SLICE_TOO_LONG         guest_len is above REKUSOYEN_LONGEST_SLICE
+ *   BAD_MAP                the map is not good
  *   INVALID_COMMAND_LINE   rekusoyen_line_as_cstring would answer NO_BOOT_ARGS_INSERTED or NULL_TERMINATOR
- *   COMMAND_LINE_OVERFLOW  the text and its zero pass guest memory
+ *   COMMAND_LINE_OVERFLOW  the text and its zero have no room at the address
  *
  * Leaves, accepted: in guest the text and its zero from the address on.
  */
 uint32_t rekusoyen_line_load(
     uint8_t *guest, size_t guest_len,
+    const uint64_t *map, size_t map_len,
     uint64_t address,
     const uint8_t *line, size_t line_len);
 

@@ -44,7 +44,7 @@ static void check_load(const struct load *load, const struct image *whole, size_
     struct lent guest = lend_filled(load->guest_len), image = lend_bytes(whole->bytes, whole->size);
     struct lent out = lend_list(out_len), header = lend_filled(header_len);
     uint32_t answer = rekusoyen_bzimage_load(
-        guest.bytes, guest.size, image.bytes, image.size, load->flags, load->offset, load->highmem,
+        guest.bytes, guest.size, WHOLE(guest.size), image.bytes, image.size, load->flags, load->offset, load->highmem,
         numbers_of(&out), out_len, header.bytes, header.size);
     CHECK_ANSWER(load->what, answer, load->answer);
     CHECK_KEPT(load->what, &image);

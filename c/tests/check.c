@@ -63,6 +63,7 @@ static struct {
     NAMED(SLICE_TOO_LONG),
     NAMED(BAD_LIST),
     NAMED(NO_ROOM),
+    NAMED(BAD_MAP),
 };
 
 #define ANSWERS (sizeof answers / sizeof answers[0])

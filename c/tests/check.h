@@ -41,6 +41,9 @@ struct lent lend_numbers(const uint64_t *numbers, size_t count);
 /* The numbers of a lent list. */
 uint64_t *numbers_of(const struct lent *lent);
 
+/* The map of a whole slice, as the two arguments that it is: one range, or none where the slice is empty. */
+#define WHOLE(length) (const uint64_t[]){0, (length)}, (size_t)((length) != 0 ? 2 : 0)
+
 /* Checks that exactly these bytes were left, and the guards untouched; gives the memory back. */
 #define CHECK_LEFT(what, lent, expected) check_left((what), #lent, (lent), (expected), __FILE__, __LINE__)
 

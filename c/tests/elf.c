@@ -124,7 +124,8 @@ static void check_load(const struct load *load, const struct image *whole, size_
 {
     struct lent guest = lend_filled(load->guest_len), image = lend_bytes(whole->bytes, whole->size), out = lend_list(out_len);
     uint32_t answer = rekusoyen_elf_load(
-        guest.bytes, guest.size, image.bytes, image.size, load->flags, load->offset, load->highmem, numbers_of(&out), out_len);
+        guest.bytes, guest.size, WHOLE(guest.size), image.bytes, image.size, load->flags, load->offset, load->highmem,
+        numbers_of(&out), out_len);
     uint8_t memory[64];
     memcpy(memory, guest.before, load->guest_len);
     for (size_t i = 0; i < 3 && load->written[i].size != 0; i++)

@@ -11,22 +11,28 @@ static void check_loads(void)
     struct lent header = lend_filled(REKUSOYEN_SETUP_HEADER_SIZE);
     const size_t load_out = REKUSOYEN_ELF_LOAD_OUT, note_out = REKUSOYEN_ELF_NOTE_OUT;
     uint64_t *out = numbers_of(&numbers);
-    CHECK_ANSWER("guest", rekusoyen_elf_load(NULL, 0, elf.bytes, elf.size, 0, 0, 0, out, load_out), REKUSOYEN_READ_KERNEL_IMAGE);
-    CHECK_ANSWER("image", rekusoyen_elf_load(guest.bytes, 32, NULL, 0, 0, 0, 0, out, load_out), REKUSOYEN_READ_ELF_HEADER);
-    CHECK_ANSWER("out", rekusoyen_elf_load(guest.bytes, 32, elf.bytes, elf.size, 0, 0, 0, NULL, 0), REKUSOYEN_NO_ROOM);
+    CHECK_ANSWER("guest", rekusoyen_elf_load(NULL, 0, NULL, 0, elf.bytes, elf.size, 0, 0, 0, out, load_out), REKUSOYEN_READ_KERNEL_IMAGE);
+    CHECK_ANSWER("image", rekusoyen_elf_load(guest.bytes, 32, WHOLE(32), NULL, 0, 0, 0, 0, out, load_out), REKUSOYEN_READ_ELF_HEADER);
+    CHECK_ANSWER("out", rekusoyen_elf_load(guest.bytes, 32, WHOLE(32), elf.bytes, elf.size, 0, 0, 0, NULL, 0), REKUSOYEN_NO_ROOM);
+    CHECK_ANSWER(
+        "map", rekusoyen_elf_load(guest.bytes, 32, NULL, 0, elf.bytes, elf.size, 0, 0, 0, out, load_out),
+        REKUSOYEN_READ_KERNEL_IMAGE);
     CHECK_ANSWER("image", rekusoyen_elf_note(NULL, 0, 0, 1, out, note_out), REKUSOYEN_READ_NOTE_HEADER);
     CHECK_ANSWER("out", rekusoyen_elf_note(elf.bytes, elf.size, 0, 1, NULL, 0), REKUSOYEN_NO_ROOM);
     CHECK_ANSWER(
-        "guest", rekusoyen_bzimage_load(NULL, 0, bzimage.bytes, bzimage.size, 0, 0, 0, out, 2, header.bytes, header.size),
+        "guest", rekusoyen_bzimage_load(NULL, 0, NULL, 0, bzimage.bytes, bzimage.size, 0, 0, 0, out, 2, header.bytes, header.size),
         REKUSOYEN_READ_BZ_IMAGE_COMPRESSED_KERNEL);
     CHECK_ANSWER(
-        "image", rekusoyen_bzimage_load(guest.bytes, 32, NULL, 0, 0, 0, 0, out, 2, header.bytes, header.size),
+        "image", rekusoyen_bzimage_load(guest.bytes, 32, WHOLE(32), NULL, 0, 0, 0, 0, out, 2, header.bytes, header.size),
         REKUSOYEN_INVALID_BZ_IMAGE);
     CHECK_ANSWER(
-        "out", rekusoyen_bzimage_load(guest.bytes, 32, bzimage.bytes, bzimage.size, 0, 0, 0, NULL, 0, header.bytes, header.size),
+        "map", rekusoyen_bzimage_load(guest.bytes, 32, NULL, 0, bzimage.bytes, bzimage.size, 0, 0, 0, out, 2, header.bytes, header.size),
+        REKUSOYEN_READ_BZ_IMAGE_COMPRESSED_KERNEL);
+    CHECK_ANSWER(
+        "out", rekusoyen_bzimage_load(guest.bytes, 32, WHOLE(32), bzimage.bytes, bzimage.size, 0, 0, 0, NULL, 0, header.bytes, header.size),
         REKUSOYEN_NO_ROOM);
     CHECK_ANSWER(
-        "header", rekusoyen_bzimage_load(guest.bytes, 32, bzimage.bytes, bzimage.size, 0, 0, 0, out, 2, NULL, 0),
+        "header", rekusoyen_bzimage_load(guest.bytes, 32, WHOLE(32), bzimage.bytes, bzimage.size, 0, 0, 0, out, 2, NULL, 0),
         REKUSOYEN_NO_ROOM);
     CHECK_KEPT("refused", &guest);
     CHECK_KEPT("refused", &numbers);
@@ -54,8 +60,9 @@ static void check_lines_refused(void)
     CHECK_ANSWER("a", rekusoyen_line_equal(NULL, 0, bytes, size, one, 1), REKUSOYEN_NO_ROOM);
     CHECK_ANSWER("b", rekusoyen_line_equal(bytes, size, NULL, 0, one, 1), REKUSOYEN_NO_ROOM);
     CHECK_ANSWER("out", rekusoyen_line_equal(bytes, size, bytes, size, NULL, 0), REKUSOYEN_NO_ROOM);
-    CHECK_ANSWER("guest", rekusoyen_line_load(NULL, 0, 0, bytes, size), REKUSOYEN_COMMAND_LINE_OVERFLOW);
-    CHECK_ANSWER("line", rekusoyen_line_load(guest.bytes, 32, 0, NULL, 0), REKUSOYEN_NO_ROOM);
+    CHECK_ANSWER("guest", rekusoyen_line_load(NULL, 0, NULL, 0, 0, bytes, size), REKUSOYEN_COMMAND_LINE_OVERFLOW);
+    CHECK_ANSWER("map", rekusoyen_line_load(guest.bytes, 32, NULL, 0, 0, bytes, size), REKUSOYEN_COMMAND_LINE_OVERFLOW);
+    CHECK_ANSWER("line", rekusoyen_line_load(guest.bytes, 32, WHOLE(32), 0, NULL, 0), REKUSOYEN_NO_ROOM);
     CHECK_KEPT("refused", &line);
     CHECK_KEPT("refused", &guest);
     CHECK_KEPT("refused", &list);

@@ -80,7 +80,7 @@ static uint32_t take_equal_second(const char *what, const struct lent *line)
 static uint32_t take_load(const char *what, const struct lent *line)
 {
     struct lent guest = lend_filled(REKUSOYEN_LINE_LIMIT);
-    uint32_t answer = rekusoyen_line_load(guest.bytes, guest.size, 0, line->bytes, line->size);
+    uint32_t answer = rekusoyen_line_load(guest.bytes, guest.size, WHOLE(guest.size), 0, line->bytes, line->size);
     CHECK_KEPT(what, &guest);
     return answer;
 }
@@ -155,7 +155,7 @@ static void check_behind_output(const char *what, size_t place, const struct lin
     uint64_t count = 0, same = 0;
     CHECK_ANSWER(what, rekusoyen_line_as_cstring(dirty.bytes, sizeof dirty.bytes, out, sizeof out, &count, 1), REKUSOYEN_ACCEPTED);
     CHECK(count == 9 && memcmp(out, "ab -- yz", 9) == 0, "%s: written as '%s'", what, (const char *)out);
-    CHECK_ANSWER(what, rekusoyen_line_load(guest, sizeof guest, 1, dirty.bytes, sizeof dirty.bytes), REKUSOYEN_ACCEPTED);
+    CHECK_ANSWER(what, rekusoyen_line_load(guest, 16, WHOLE(16), 1, dirty.bytes, sizeof dirty.bytes), REKUSOYEN_ACCEPTED);
     CHECK(memcmp(guest + 1, "ab -- yz", 9) == 0, "%s: loaded as '%s'", what, (const char *)guest + 1);
     CHECK_ANSWER(what, rekusoyen_line_equal(dirty.bytes, sizeof dirty.bytes, clean->bytes, sizeof clean->bytes, &same, 1), REKUSOYEN_ACCEPTED);
     CHECK(same == 1, "%s: a line is equal to one with the same texts", what);

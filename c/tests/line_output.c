@@ -59,7 +59,7 @@ static void check_loaded(const struct written *written, size_t size, uint64_t ad
     struct lent line = lend_line(written, CAPACITY_OF_ALL), guest = lend_filled(size);
     uint8_t left[CAPACITY_OF_ALL];
     memcpy(left, guest.before, size);
-    CHECK_ANSWER(written->what, rekusoyen_line_load(guest.bytes, guest.size, address, line.bytes, line.size), answer);
+    CHECK_ANSWER(written->what, rekusoyen_line_load(guest.bytes, guest.size, WHOLE(size), address, line.bytes, line.size), answer);
     if (answer == REKUSOYEN_ACCEPTED)
         memcpy(left + address, written->text.bytes, written->text.size);
     CHECK_KEPT(written->what, &line);
@@ -89,7 +89,7 @@ static void check_order(void)
     CHECK_ANSWER("out", rekusoyen_line_equal(bad.bytes, bad.size, bad.bytes, bad.size, numbers, 2), REKUSOYEN_NO_ROOM);
     CHECK_ANSWER("a", rekusoyen_line_equal(bad.bytes, bad.size, bad.bytes, 9, numbers, 1), REKUSOYEN_INVALID_CAPACITY);
     CHECK_ANSWER("b", rekusoyen_line_equal(bad.bytes, 9, bad.bytes, bad.size, numbers, 1), REKUSOYEN_NO_ROOM);
-    CHECK_ANSWER("line", rekusoyen_line_load(out.bytes, out.size, 99, bad.bytes, bad.size), REKUSOYEN_INVALID_CAPACITY);
+    CHECK_ANSWER("line", rekusoyen_line_load(out.bytes, out.size, numbers, 1, 99, bad.bytes, bad.size), REKUSOYEN_INVALID_CAPACITY);
     CHECK_KEPT("refused", &bad);
     CHECK_KEPT("refused", &out);
     CHECK_KEPT("refused", &list);

@@ -65,13 +65,13 @@ static void check_loads(
     const uint64_t elf_values[REKUSOYEN_ELF_LOAD_OUT] = {16, 24, REKUSOYEN_PVH_IGNORED};
     struct lent out = lend_list(REKUSOYEN_ELF_LOAD_OUT);
     uint32_t answer = rekusoyen_elf_load(
-        guest->bytes, guest->size, image->bytes, image_len, 0, 0, 0, numbers_of(&out), REKUSOYEN_ELF_LOAD_OUT);
+        guest->bytes, guest->size, WHOLE(guest->size), image->bytes, image_len, 0, 0, 0, numbers_of(&out), REKUSOYEN_ELF_LOAD_OUT);
     CHECK_ANSWER(what, answer, elf);
     CHECK_LEFT(what, &out, elf == REKUSOYEN_ACCEPTED ? (const void *)elf_values : out.before);
 
     struct lent values = lend_list(REKUSOYEN_BZIMAGE_LOAD_OUT), header = lend_filled(REKUSOYEN_SETUP_HEADER_SIZE);
     answer = rekusoyen_bzimage_load(
-        guest->bytes, guest->size, image->bytes, image_len, 0, 0, 0,
+        guest->bytes, guest->size, WHOLE(guest->size), image->bytes, image_len, 0, 0, 0,
         numbers_of(&values), REKUSOYEN_BZIMAGE_LOAD_OUT, header.bytes, header.size);
     CHECK_ANSWER(what, answer, bzimage);
     CHECK_KEPT(what, &values);
@@ -137,7 +137,7 @@ static void load_elf_into(struct mapping *guest, size_t guest_len, uint32_t expe
     const uint64_t values[REKUSOYEN_ELF_LOAD_OUT] = {LAST, LONGEST, REKUSOYEN_PVH_IGNORED};
     struct lent image = lend_bytes(whole.bytes, whole.size), out = lend_list(REKUSOYEN_ELF_LOAD_OUT);
     uint32_t answer = rekusoyen_elf_load(
-        guest->bytes, guest_len, image.bytes, image.size, 0, 0, 0, numbers_of(&out), REKUSOYEN_ELF_LOAD_OUT);
+        guest->bytes, guest_len, WHOLE(guest_len), image.bytes, image.size, 0, 0, 0, numbers_of(&out), REKUSOYEN_ELF_LOAD_OUT);
     CHECK_ANSWER("an ELF load", answer, expected);
     CHECK_KEPT("an ELF load", &image);
     CHECK_LEFT("an ELF load", &out, expected == REKUSOYEN_ACCEPTED ? (const void *)values : out.before);
@@ -153,7 +153,7 @@ static void load_bzimage_into(struct mapping *guest, size_t guest_len, uint32_t 
     struct lent image = lend_bytes(whole.bytes, whole.size), out = lend_list(REKUSOYEN_BZIMAGE_LOAD_OUT);
     struct lent header = lend_filled(REKUSOYEN_SETUP_HEADER_SIZE);
     uint32_t answer = rekusoyen_bzimage_load(
-        guest->bytes, guest_len, image.bytes, image.size, REKUSOYEN_OFFSET_GIVEN, LAST, 0,
+        guest->bytes, guest_len, WHOLE(guest_len), image.bytes, image.size, REKUSOYEN_OFFSET_GIVEN, LAST, 0,
         numbers_of(&out), REKUSOYEN_BZIMAGE_LOAD_OUT, header.bytes, header.size);
     CHECK_ANSWER("a bzImage load", answer, expected);
     CHECK_KEPT("a bzImage load", &image);
@@ -166,7 +166,7 @@ static void load_line_into(
     struct mapping *guest, size_t guest_len, const struct line *bytes_of_line, uint32_t expected, const char *bytes)
 {
     struct lent line = lend_bytes(bytes_of_line->bytes, sizeof bytes_of_line->bytes);
-    CHECK_ANSWER("a line load", rekusoyen_line_load(guest->bytes, guest_len, LAST, line.bytes, line.size), expected);
+    CHECK_ANSWER("a line load", rekusoyen_line_load(guest->bytes, guest_len, WHOLE(guest_len), LAST, line.bytes, line.size), expected);
     CHECK_KEPT("a line load", &line);
     check_last("a line load", guest, bytes);
 }
@@ -186,15 +186,43 @@ static void check_guests(struct mapping *mapping)
     load_line_into(mapping, LONGEST + 1, &no_line, REKUSOYEN_INVALID_CAPACITY, "ab\0");
 }
 
+/* A bad map is refused behind a slice that is too long, and before the image or the line is looked at. */
+static void check_bad_map(const struct mapping *mapping)
+{
+    const struct text none = T(""), two = T("ab");
+    const struct line init_only = line_of(none, two, 9);
+    static const struct {
+        size_t guest_len;
+        uint32_t answer;
+    } lengths[] = {{LONGEST + 1, REKUSOYEN_SLICE_TOO_LONG}, {LONGEST, REKUSOYEN_BAD_MAP}};
+    for (size_t i = 0; i < sizeof lengths / sizeof lengths[0]; i++) {
+        const size_t length = lengths[i].guest_len;
+        const uint64_t past[] = {0, length + 1};
+        struct lent out = lend_list(REKUSOYEN_ELF_LOAD_OUT), header = lend_filled(REKUSOYEN_SETUP_HEADER_SIZE);
+        uint64_t *numbers = numbers_of(&out);
+        uint32_t answer =
+            rekusoyen_elf_load(mapping->bytes, length, past, 2, NULL, 0, 0, 0, 0, numbers, REKUSOYEN_ELF_LOAD_OUT);
+        CHECK_ANSWER("elf", answer, lengths[i].answer);
+        answer = rekusoyen_bzimage_load(
+            mapping->bytes, length, past, 2, NULL, 0, 0, 0, 0, numbers, REKUSOYEN_BZIMAGE_LOAD_OUT, header.bytes, header.size);
+        CHECK_ANSWER("bzImage", answer, lengths[i].answer);
+        answer = rekusoyen_line_load(mapping->bytes, length, past, 2, 0, init_only.bytes, sizeof init_only.bytes);
+        CHECK_ANSWER("line", answer, lengths[i].answer);
+        CHECK_KEPT("a bad map", &out);
+        CHECK_KEPT("a bad map", &header);
+        check_edges("a bad map", mapping);
+    }
+}
+
 /* A list of the wrong size is refused first. */
 static void check_order(const struct mapping *mapping)
 {
     uint8_t *const bytes = mapping->bytes;
     struct lent list = lend_list(1);
     uint64_t *const one = numbers_of(&list);
-    CHECK_ANSWER("elf", rekusoyen_elf_load(bytes, LONGEST + 1, NULL, 0, 0, 0, 0, one, 1), REKUSOYEN_NO_ROOM);
+    CHECK_ANSWER("elf", rekusoyen_elf_load(bytes, LONGEST + 1, one, 1, NULL, 0, 0, 0, 0, one, 1), REKUSOYEN_NO_ROOM);
     CHECK_ANSWER("note", rekusoyen_elf_note(bytes, LONGEST + 1, 0, 0, one, 1), REKUSOYEN_NO_ROOM);
-    CHECK_ANSWER("bzImage", rekusoyen_bzimage_load(bytes, LONGEST + 1, NULL, 0, 0, 0, 0, one, 1, NULL, 0), REKUSOYEN_NO_ROOM);
+    CHECK_ANSWER("bzImage", rekusoyen_bzimage_load(bytes, LONGEST + 1, one, 1, NULL, 0, 0, 0, 0, one, 1, NULL, 0), REKUSOYEN_NO_ROOM);
     CHECK_KEPT("a list of the wrong size", &list);
     check_edges("a list of the wrong size", mapping);
 }
@@ -208,6 +236,7 @@ void test_long_slices(void)
         return;
     check_images(&mapping);
     check_guests(&mapping);
+    check_bad_map(&mapping);
     check_order(&mapping);
     CHECK(munmap(mapping.bytes, MAPPED) == 0, "the mapping is given back");
 }

@@ -19,6 +19,7 @@ int main(int count, char **words)
     test_line_calls();
     test_line_bytes();
     test_line_output();
+    test_maps();
     test_long_slices();
     test_empty_slices();
     check_all_reached();

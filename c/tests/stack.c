@@ -24,9 +24,18 @@ static struct image elf, bzimage;
 static const uint8_t text[] = "text";
 static const size_t ends[] = {2, 4};
 
+/* As many ranges as a map has; all that is loaded goes to the second. */
+static const uint64_t ranges[] = {
+    0,  1, 16, 8, 30, 1, 32, 1, 34, 1, 36, 1, 38, 1, 40, 1,
+    42, 1, 44, 1, 46, 1, 48, 1, 50, 1, 52, 1, 54, 1, 56, 8,
+};
+
+#define RANGES (sizeof ranges / sizeof ranges[0])
+
 static uint32_t elf_load(void)
 {
-    return rekusoyen_elf_load(guest, sizeof guest, elf.bytes, elf.size, 0, 0, 0, out, REKUSOYEN_ELF_LOAD_OUT);
+    return rekusoyen_elf_load(
+        guest, sizeof guest, ranges, RANGES, elf.bytes, elf.size, 0, 0, 0, out, REKUSOYEN_ELF_LOAD_OUT);
 }
 
 static uint32_t elf_note(void)
@@ -37,7 +46,7 @@ static uint32_t elf_note(void)
 static uint32_t bzimage_load(void)
 {
     return rekusoyen_bzimage_load(
-        guest, sizeof guest, bzimage.bytes, bzimage.size, 0, 0, 0,
+        guest, sizeof guest, ranges, RANGES, bzimage.bytes, bzimage.size, 0, 0, 0,
         out, REKUSOYEN_BZIMAGE_LOAD_OUT, setup_header, sizeof setup_header);
 }
 
@@ -88,7 +97,7 @@ static uint32_t line_equal(void)
 
 static uint32_t line_load(void)
 {
-    return rekusoyen_line_load(guest, sizeof guest, 0, other_line, sizeof other_line);
+    return rekusoyen_line_load(guest, sizeof guest, ranges, RANGES, 16, other_line, sizeof other_line);
 }
 
 /* Every function, in an order in which each call is accepted. */

@@ -36,8 +36,11 @@ pub const ELF_NOTE_OUT: usize = 5;
 /// How many places the list of a bzImage load's values has.
 pub const BZIMAGE_LOAD_OUT: usize = 2;
 
+/// How many ranges a map of guest memory has at most.
+pub const MAP_RANGES: usize = 16;
+
 extern "C" {
-    /// Loads an ELF image. `out` has 6 places: the load address, the kernel's end, PVH (0 ignored, 1 not present, 2 present), its address,
+    /// Loads an ELF image. `map` has the ranges of guest memory, start and size in turn. `out` has 6 places: the load address, the kernel's end, PVH (0 ignored, 1 not present, 2 present), its address,
     /// and the place and the size of the descriptor that it was read from.
     ///
     /// # Safety
@@ -47,6 +50,8 @@ extern "C" {
     pub fn rekusoyen_elf_load(
         guest: *mut u8,
         guest_len: usize,
+        map: *const u64,
+        map_len: usize,
         image: *const u8,
         image_len: usize,
         flags: u32,
@@ -79,6 +84,8 @@ extern "C" {
     pub fn rekusoyen_bzimage_load(
         guest: *mut u8,
         guest_len: usize,
+        map: *const u64,
+        map_len: usize,
         image: *const u8,
         image_len: usize,
         flags: u32,
@@ -215,6 +222,8 @@ extern "C" {
     pub fn rekusoyen_line_load(
         guest: *mut u8,
         guest_len: usize,
+        map: *const u64,
+        map_len: usize,
         address: u64,
         line: *const u8,
         line_len: usize,

@@ -4,27 +4,51 @@
 use std::marker::PhantomData;
 
 use crate::entry;
+use crate::map::Map;
 use crate::refusal::{answered, Refusal};
 use crate::GuestAddress;
 
-/// Guest memory, lent for one call.
+/// Guest memory, lent for one call, and its map if it has one.
 pub(crate) struct Guest<'a> {
     start: *mut u8,
     length: usize,
+    map: Option<&'a Map>,
+    /// the one range of guest memory without holes
+    whole: [u64; 2],
     lent: PhantomData<&'a mut [u8]>,
 }
 
 impl<'a> From<&'a mut [u8]> for Guest<'a> {
     fn from(bytes: &'a mut [u8]) -> Self {
-        Guest {
-            start: bytes.as_mut_ptr(),
-            length: bytes.len(),
-            lent: PhantomData,
-        }
+        Guest::new(bytes.as_mut_ptr(), bytes.len(), None)
     }
 }
 
-impl Guest<'_> {
+impl<'a> Guest<'a> {
+    /// Guest memory that has a map.
+    pub(crate) fn over(bytes: &'a mut [u8], map: &'a Map) -> Self {
+        Guest::new(bytes.as_mut_ptr(), bytes.len(), Some(map))
+    }
+
+    fn new(start: *mut u8, length: usize, map: Option<&'a Map>) -> Self {
+        Guest {
+            start,
+            length,
+            map,
+            whole: [0, length as u64],
+            lent: PhantomData,
+        }
+    }
+
+    /// The numbers of its map: without one, those of the whole slice.
+    fn map(&self) -> &[u64] {
+        match self.map {
+            Some(map) => map.numbers(),
+            None if self.length == 0 => &[],
+            None => &self.whole,
+        }
+    }
+
     /// Guest memory that is no slice of Rust's.
     ///
     /// # Safety
@@ -33,11 +57,7 @@ impl Guest<'_> {
     /// them.
     #[cfg(feature = "vm-memory")]
     pub(crate) unsafe fn at(start: *mut u8, length: usize) -> Self {
-        Guest {
-            start,
-            length,
-            lent: PhantomData,
-        }
+        Guest::new(start, length, None)
     }
 }
 
@@ -82,12 +102,15 @@ pub(crate) fn elf_load(
     options: Options,
 ) -> Result<[u64; entry::ELF_LOAD_OUT], Refusal> {
     let mut out = [0; entry::ELF_LOAD_OUT];
-    // SAFETY: the guest's bytes can be read and written and nobody else has them, by `Guest`; image and output are slices of
+    let map = guest.map();
+    // SAFETY: the guest's bytes can be read and written and nobody else has them, by `Guest`; map, image and output are slices of
     // Rust's, the output borrowed by this call alone. The function keeps none of the pointers.
     let number = unsafe {
         entry::rekusoyen_elf_load(
             guest.start,
             guest.length,
+            map.as_ptr(),
+            map.len(),
             image.as_ptr(),
             image.len(),
             options.flags(),
@@ -137,12 +160,15 @@ pub(crate) fn bzimage_load(
 ) -> Result<BzImageLoaded, Refusal> {
     let mut out = [0; entry::BZIMAGE_LOAD_OUT];
     let mut setup_header = [0; entry::SETUP_HEADER_SIZE];
+    let map = guest.map();
     // SAFETY: the guest's bytes can be read and written and nobody else has them, by `Guest`; the others are slices of Rust's,
     // both outputs borrowed by this call alone. The function keeps none of the pointers.
     let number = unsafe {
         entry::rekusoyen_bzimage_load(
             guest.start,
             guest.length,
+            map.as_ptr(),
+            map.len(),
             image.as_ptr(),
             image.len(),
             options.flags(),
@@ -164,12 +190,15 @@ pub(crate) fn bzimage_load(
 
 /// Writes a line and its zero into guest memory.
 pub(crate) fn line_load(guest: Guest, address: GuestAddress, line: &[u8]) -> Result<(), Refusal> {
-    // SAFETY: the guest's bytes can be read and written and nobody else has them, by `Guest`; the line is a slice of Rust's. The
-    // function keeps neither pointer.
+    let map = guest.map();
+    // SAFETY: the guest's bytes can be read and written and nobody else has them, by `Guest`; map and line are slices of Rust's. The
+    // function keeps none of the pointers.
     let number = unsafe {
         entry::rekusoyen_line_load(
             guest.start,
             guest.length,
+            map.as_ptr(),
+            map.len(),
             address.0,
             line.as_ptr(),
             line.len(),

@@ -29,6 +29,9 @@
 //! # Ok::<(), Box<dyn std::error::Error>>(())
 //! ```
 //!
+//! Guest memory may have holes: a [`Map`] names the ranges in which there is memory, and `load_into_map` of both loaders and
+//! [`load_cmdline_into_map`](loader::load_cmdline_into_map) take one. Without a map the slice has no hole.
+//!
 //! With the feature `vm-memory`, `loader` has the trait `KernelLoader` and the function `load_cmdline` of linux-loader, with its
 //! signatures: a monitor writes `use rekusoyen::..` for `use linux_loader::..`. Guest memory is then the region that begins at
 //! guest address 0; memory in other regions is no room.
@@ -48,10 +51,12 @@ pub mod cmdline;
 pub mod entry;
 mod lent;
 pub mod loader;
+mod map;
 mod refusal;
 
 pub use address::{GuestAddress, GuestUsize};
 pub use loader::bootparam;
+pub use map::Map;
 pub use refusal::Refusal;
 
 #[cfg(doctest)]

@@ -99,6 +99,8 @@ refusals! {
     BadList = 61,
     /// A lent output has no room, or another size than it must have.
     NoRoom = 62,
+    /// A map is not good: its ranges must be 16 at most, not empty, rising, not touching, and within guest memory.
+    BadMap = 77,
 }
 
 impl Refusal {

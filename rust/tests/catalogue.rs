@@ -107,6 +107,7 @@ fn sizes_flags_and_codes_are_those_of_the_header() {
             format!("{}u", entry::PVH_NOT_PRESENT),
         ),
         ("REKUSOYEN_PVH_PRESENT", format!("{}u", entry::PVH_PRESENT)),
+        ("REKUSOYEN_MAP_RANGES", entry::MAP_RANGES.to_string()),
         ("REKUSOYEN_ELF_LOAD_OUT", entry::ELF_LOAD_OUT.to_string()),
         ("REKUSOYEN_ELF_NOTE_OUT", entry::ELF_NOTE_OUT.to_string()),
         (

@@ -4,8 +4,10 @@ mod images;
 
 use images::{fresh, note, note_header, BzImageFile, ElfImage, LOADABLE, NOTE};
 use rekusoyen::cmdline::{self, Cmdline};
-use rekusoyen::loader::{self, bzimage, elf, load_cmdline_into, BzImage, Elf};
-use rekusoyen::{GuestAddress, Refusal};
+use rekusoyen::loader::{
+    self, bzimage, elf, load_cmdline_into, load_cmdline_into_map, BzImage, Elf,
+};
+use rekusoyen::{GuestAddress, Map, Refusal};
 use vm_memory::MmapRegion;
 
 /// The safe functions lend lists that rise and outputs of the right size, so that nobody can be refused for them.
@@ -13,7 +15,15 @@ const NEVER: [Refusal; 2] = [Refusal::BadList, Refusal::NoRoom];
 
 #[test]
 fn every_refusal_is_reached_and_has_its_number() {
-    let reached = [of_elf(), of_notes(), of_bzimage(), of_lines(), of_long()].concat();
+    let reached = [
+        of_elf(),
+        of_notes(),
+        of_bzimage(),
+        of_lines(),
+        of_maps(),
+        of_long(),
+    ]
+    .concat();
     for (refusal, number) in &reached {
         assert_eq!(*number, Some(refusal.number()), "{refusal:?}");
     }
@@ -167,6 +177,21 @@ fn of_lines() -> Reached {
         (Refusal::NoBootArgsInserted, by_line(line.as_cstring())),
         (Refusal::NullTerminator, by_line(zero.as_cstring())),
     ]
+}
+
+/// A map that passes guest memory, in each load.
+fn of_maps() -> Reached {
+    let map = Map::whole(9);
+    let line = Cmdline::new(1).unwrap();
+    let guest = &mut [0; 8][..];
+    let answers = [
+        Elf::load_into_map(guest, &map, None, &[], None).map(|_| ()),
+        BzImage::load_into_map(guest, &map, None, &[], None).map(|_| ()),
+        load_cmdline_into_map(guest, &map, GuestAddress(0), &line),
+    ];
+    answers
+        .map(|answer| (Refusal::BadMap, answer.unwrap_err().number()))
+        .to_vec()
 }
 
 /// Slices of one byte more than 2^40. The memory is mapped and never touched, so that it costs nothing.

@@ -11,15 +11,16 @@ const UNTOUCHED: u8 = 0xe7;
 /// The answer by a set of rules, which is the same set in the copy with planted mistakes.
 pub fn answer_by(question: &Question, rules: second::Rules) -> Answer {
     let switched_on = rules.switched_on;
+    let map = question.numbers();
     match question {
-        Question::Elf(load) => answer_elf(load, Rules { switched_on }),
+        Question::Elf(load) => answer_elf(load, &map, Rules { switched_on }),
         Question::Note(walk) => Answer::Note(answer_note(walk)),
-        Question::Bzimage(load) => answer_bzimage(load),
+        Question::Bzimage(load) => answer_bzimage(load, &map),
         Question::Line(calls) => Answer::Line(answer_calls(calls).0),
         Question::LineLoad(load) => {
             let (calls, line) = answer_calls(&load.calls);
             let mut guest = load.guest.clone();
-            let outcome = loading::load_line(&mut guest, load.address, &line);
+            let outcome = loading::load_line(&mut guest, &map, load.address, &line);
             let outcome = outcome.map_err(Refusal::number);
             Answer::LineLoad {
                 calls,
@@ -30,10 +31,10 @@ pub fn answer_by(question: &Question, rules: second::Rules) -> Answer {
     }
 }
 
-fn answer_elf(load: &Load, rules: Rules) -> Answer {
+fn answer_elf(load: &Load, map: &[u64], rules: Rules) -> Answer {
     let mut guest = load.guest.clone();
     let (offset, highmem) = (load.options.offset, load.options.highmem);
-    let outcome = elf::load(rules, &load.image, &mut guest, offset, highmem);
+    let outcome = elf::load(rules, &load.image, &mut guest, map, offset, highmem);
     let outcome = outcome.map_err(Refusal::number).map(|loaded| ElfLoaded {
         load: loaded.load,
         end: loaded.end,
@@ -61,10 +62,10 @@ fn pvh(pvh: note::Pvh) -> Pvh {
     }
 }
 
-fn answer_bzimage(load: &Load) -> Answer {
+fn answer_bzimage(load: &Load, map: &[u64]) -> Answer {
     let mut guest = load.guest.clone();
-    let options = load.options;
-    let outcome = bzimage::load(&load.image, &mut guest, options.offset, options.highmem);
+    let (offset, highmem) = (load.options.offset, load.options.highmem);
+    let outcome = bzimage::load(&load.image, &mut guest, map, offset, highmem);
     let outcome = outcome
         .map_err(Refusal::number)
         .map(|loaded| BzimageLoaded {
@@ -73,6 +74,12 @@ fn answer_bzimage(load: &Load) -> Answer {
             header: loaded.header.to_vec(),
         });
     Answer::Bzimage { outcome, guest }
+}
+
+/// The line that the calls make.
+#[allow(dead_code)] // nobody asks the copy with planted mistakes for it
+pub fn line_of(calls: &[Call]) -> Line {
+    answer_calls(calls).1
 }
 
 fn answer_calls(calls: &[Call]) -> (Vec<CallAnswer>, Line) {

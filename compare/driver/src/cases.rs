@@ -1,6 +1,7 @@
 //! Cases at the edges of the rules, each with what is to be answered: more of them than the worked examples, and as easy to read.
 
 use crate::examples::{put, pvh_note, small_bzimage, small_elf};
+use crate::map_cases;
 use crate::question::{Call, Load, Question, Walk};
 
 /// A question, and the answer to it in the short form of the test below.
@@ -19,6 +20,7 @@ pub fn all() -> Vec<Case> {
         lines(),
         lists_and_devices(),
         equal(),
+        map_cases::all(),
     ]
     .concat()
 }

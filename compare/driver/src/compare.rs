@@ -30,7 +30,8 @@ fn without_failed_copy(question: &Question, answer: &Answer, wanted: &Answer) ->
     let mut answer = answer.clone();
     match (&mut answer, wanted) {
         (Answer::Elf { guest, .. }, Answer::Elf { guest: other, .. })
-        | (Answer::Bzimage { guest, .. }, Answer::Bzimage { guest: other, .. }) => {
+        | (Answer::Bzimage { guest, .. }, Answer::Bzimage { guest: other, .. })
+        | (Answer::LineLoad { guest, .. }, Answer::LineLoad { guest: other, .. }) => {
             guest[unwritten.clone()].copy_from_slice(&other[unwritten]);
         }
         _ => {}

@@ -1,7 +1,7 @@
 //! Questions read back from bytes: what a program that answers them does first.
 
 use crate::encode::LARGEST;
-use crate::question::{Call, LineLoad, Load, Options, Question, Walk};
+use crate::question::{Call, LineLoad, Load, Map, Options, Question, Walk};
 use std::io::{self, Read};
 
 const BODY_LIMIT: usize = 2_162_688;
@@ -65,30 +65,45 @@ pub fn question(body: &[u8]) -> Parsed<Question> {
     let mut rest = Rest(body);
     let kind = rest.number::<1>()?;
     Ok(match kind {
-        1 => Question::Elf(load(rest)?),
+        1 => Question::Elf(load(None, rest)?),
         2 => Question::Note(Walk {
             place: rest.number::<8>()?,
             size: rest.number::<8>()?,
             image: rest.0.to_vec(),
         }),
-        3 => Question::Bzimage(load(rest)?),
+        3 => Question::Bzimage(load(None, rest)?),
         4 => Question::Line(calls(rest)?),
-        5 => {
-            let address = rest.number::<8>()?;
-            let guest = rest.number::<4>()?;
-            let guest = rest.bytes(guest)?;
-            let calls = calls(rest)?;
-            Question::LineLoad(LineLoad {
-                address,
-                guest,
-                calls,
-            })
-        }
+        5 => Question::LineLoad(line_load(None, rest)?),
+        6 => Question::Elf(load(map(&mut rest)?, rest)?),
+        7 => Question::Bzimage(load(map(&mut rest)?, rest)?),
+        8 => Question::LineLoad(line_load(map(&mut rest)?, rest)?),
         _ => return Err("unknown kind"),
     })
 }
 
-fn load(mut rest: Rest) -> Parsed<Load> {
+/// The numbers of a map, with their count in front.
+fn map(rest: &mut Rest) -> Parsed<Map> {
+    let missing = |_| "the map";
+    let count = rest.number::<1>().map_err(missing)?;
+    let numbers = (0..count).map(|_| rest.number::<8>());
+    let numbers = numbers.collect::<Parsed<Vec<u64>>>();
+    numbers.map(Some).map_err(missing)
+}
+
+fn line_load(map: Map, mut rest: Rest) -> Parsed<LineLoad> {
+    let address = rest.number::<8>()?;
+    let guest = rest.number::<4>()?;
+    let guest = rest.bytes(guest)?;
+    let calls = calls(rest)?;
+    Ok(LineLoad {
+        map,
+        address,
+        guest,
+        calls,
+    })
+}
+
+fn load(map: Map, mut rest: Rest) -> Parsed<Load> {
     let flags = rest.number::<1>()?;
     let (offset, highmem) = (rest.number::<8>()?, rest.number::<8>()?);
     let (image, guest) = (rest.number::<4>()?, rest.number::<4>()?);
@@ -100,6 +115,7 @@ fn load(mut rest: Rest) -> Parsed<Load> {
             offset: (flags & 1 != 0).then_some(offset),
             highmem: (flags & 2 != 0).then_some(highmem),
         },
+        map,
         image: rest.bytes(image)?,
         guest: rest.bytes(guest)?,
     };
@@ -211,7 +227,11 @@ mod tests {
     fn what_is_encoded_is_read_back() {
         for area in Area::ALL {
             for seed in 0..300 {
-                let question = generate::random(area, &mut Rng::new(seed));
+                let mut rng = Rng::new(seed);
+                let mut question = generate::random(area, &mut rng);
+                if seed % 2 == 1 {
+                    question = generate::over_map(question, &mut rng);
+                }
                 let bytes = framed(&question);
                 let read = next(&mut &bytes[..]).unwrap();
                 assert_eq!(read, Next::Question(question));
@@ -232,6 +252,9 @@ mod tests {
         assert_eq!(read(), Next::Question(Question::Line(vec![Call::Keep])));
         assert_eq!(read(), Next::CutShort);
         assert_eq!(read(), Next::End);
+        for body in [&[6][..], &[7, 1], &[8, 2, 0, 0, 0, 0, 0, 0, 0, 0, 0]] {
+            assert_eq!(super::question(body), Err("the map"));
+        }
     }
 
     #[test]

@@ -2,8 +2,10 @@
 //! here leaves something out, and says why. The second program is compared on everything.
 
 use crate::answer::Answer;
+use crate::parts::{self, Part};
 use crate::question::{Call, Load, Question};
-use second::fields::{range, u16_at, u32_at, u64_at};
+use second::fields::range;
+use second::map::Map;
 use std::ops::Range;
 
 /// The greatest capacity that the rules allow.
@@ -12,17 +14,24 @@ const CAPACITY_LIMIT: u32 = 4096;
 /// Whether the crate is asked at all.
 pub fn asks_crate(question: &Question) -> bool {
     match question {
-        Question::Elf(load) => !guest_is_empty(&load.guest),
+        Question::Elf(_) => has_regions(question),
         Question::Note(walk) => !place_cannot_be_moved(walk.place),
-        Question::Bzimage(load) => !guest_is_empty(&load.guest) && !kernel_is_empty(load),
+        Question::Bzimage(load) => has_regions(question) && !kernel_is_empty(load),
         Question::Line(calls) => !has_high_bytes(calls),
-        Question::LineLoad(load) => !guest_is_empty(&load.guest) && !has_high_bytes(&load.calls),
+        Question::LineLoad(load) => has_regions(question) && !has_high_bytes(&load.calls),
     }
 }
 
-/// The crate's guest memory is one region that is not empty; its memory library makes no empty region.
-fn guest_is_empty(guest: &[u8]) -> bool {
-    guest.is_empty()
+/// The crate's guest memory is a region for each range of a good map, and one at least: its memory library makes no empty region, and has
+/// rules of its own for regions that overlap or fall. Regions that touch are a bad map here and one run of memory there.
+fn has_regions(question: &Question) -> bool {
+    let numbers = question.numbers();
+    !numbers.is_empty() && map_of(question).is_some()
+}
+
+/// The question's map, if it is good.
+fn map_of(question: &Question) -> Option<Map> {
+    Map::from_numbers(&question.numbers(), question.guest().len()).ok()
 }
 
 /// The crate walks notes only inside an ELF load, so a walk is asked as a load of an image with a header and one program header in
@@ -87,47 +96,35 @@ pub fn output_is_short(room: u32, written: &[u8]) -> bool {
 pub fn failed_copy(question: &Question, answer: &Answer) -> Range<usize> {
     let range = match (question, answer) {
         (Question::Elf(load), Answer::Elf { outcome, .. }) if *outcome == Err(10) => {
-            refused_segment(load)
+            map_of(question).and_then(|map| refused_segment(load, &map))
         }
         (Question::Bzimage(load), Answer::Bzimage { outcome, .. }) if *outcome == Err(24) => {
-            refused_kernel(load)
+            parts::kernel_address(load).map(|address| (address, u64::MAX))
+        }
+        // without a map a line's last byte is looked for before anything is written
+        (Question::LineLoad(load), Answer::LineLoad { outcome, .. })
+            if *outcome == Err(32) && load.map.is_some() =>
+        {
+            parts::written_line(load)
         }
         _ => None,
     };
-    range.unwrap_or(0..0)
+    range.map_or(0..0, |part| clamped(part, question.guest().len()))
 }
 
 /// Where the first segment that cannot be copied was to go.
-fn refused_segment(load: &Load) -> Option<Range<usize>> {
-    let image = &load.image;
-    if image.len() < 64 {
-        return None;
-    }
-    let table = image.get(u64_at(image, 32) as usize..)?;
-    let count = usize::from(u16_at(image, 56));
-    for header in table.chunks_exact(56).take(count) {
-        let (from, size) = (u64_at(header, 8), u64_at(header, 32));
-        if u32_at(header, 0) != 1 || size == 0 {
-            continue;
-        }
-        let address = u64_at(header, 24).wrapping_add(load.options.offset.unwrap_or(0));
-        let fits = |length, place: u64| range(length, place.into(), size.into()).is_some();
-        if !fits(image.len(), from) || !fits(load.guest.len(), address) {
-            return Some(clamped(address, size, load.guest.len()));
-        }
-    }
-    None
-}
-
-fn refused_kernel(load: &Load) -> Option<Range<usize>> {
-    let start = load.image.get(0x214..0x218)?;
-    let start = u64::from(u32_at(start, 0));
-    let address = load.options.offset.unwrap_or(start);
-    Some(clamped(address, u64::MAX, load.guest.len()))
+fn refused_segment(load: &Load, map: &Map) -> Option<Part> {
+    let segments = parts::segments(load).into_iter();
+    let mut refused = segments.filter(|segment| {
+        let (address, size) = segment.to;
+        let stands = range(load.image.len(), segment.place.into(), size.into()).is_some();
+        !stands || map.room(address, size).is_none()
+    });
+    refused.next().map(|segment| segment.to)
 }
 
 /// The part of a range of addresses that the guest has.
-fn clamped(address: u64, size: u64, length: usize) -> Range<usize> {
+fn clamped((address, size): Part, length: usize) -> Range<usize> {
     let bound = |place: u64| place.min(length as u64) as usize;
     bound(address)..bound(address.saturating_add(size))
 }
@@ -148,6 +145,20 @@ mod tests {
         assert!(asks_crate(&Question::Bzimage(load.clone())));
         load.image.truncate(1024);
         assert!(!asks_crate(&Question::Bzimage(load)));
+    }
+
+    #[test]
+    fn bad_maps_and_those_without_a_range_are_left_out() {
+        for (map, asked) in [
+            (&[0, 17, 18, 14][..], true),
+            (&[0, 17, 17, 15], false),
+            (&[0], false),
+            (&[], false),
+        ] {
+            let question = Question::Elf(examples::small_elf());
+            let question = question.over(Some(map.to_vec()));
+            assert_eq!(asks_crate(&question), asked, "{map:?}");
+        }
     }
 
     #[test]
@@ -172,6 +183,9 @@ mod tests {
         let question = Question::Elf(load);
         let answer = over_second::answer(&question);
         assert_eq!(failed_copy(&question, &answer), 16..18);
+        let hole = Question::Elf(examples::small_elf()).over(Some(vec![0, 17, 18, 14]));
+        let answer = over_second::answer(&hole);
+        assert_eq!(failed_copy(&hole, &answer), 16..19);
         let accepted = Question::Elf(examples::small_elf());
         let answer = over_second::answer(&accepted);
         assert!(failed_copy(&accepted, &answer).is_empty());

@@ -1,6 +1,6 @@
 //! Questions as bytes, in the form that `docs/PROBE.md` gives.
 
-use crate::question::{Call, Load, Question};
+use crate::question::{Call, Load, Map, Question};
 
 /// The most bytes of an image or of a guest that the form takes.
 pub const LARGEST: usize = 1 << 20;
@@ -26,20 +26,20 @@ pub fn framed(question: &Question) -> Vec<u8> {
 fn body(question: &Question) -> Vec<u8> {
     let mut out = Vec::new();
     match question {
-        Question::Elf(load) => put_load(&mut out, 1, load),
+        Question::Elf(load) => put_load(&mut out, [1, 6], load),
         Question::Note(walk) => {
             out.push(2);
             out.extend(walk.place.to_le_bytes());
             out.extend(walk.size.to_le_bytes());
             out.extend(&walk.image);
         }
-        Question::Bzimage(load) => put_load(&mut out, 3, load),
+        Question::Bzimage(load) => put_load(&mut out, [3, 7], load),
         Question::Line(calls) => {
             out.push(4);
             put_calls(&mut out, calls);
         }
         Question::LineLoad(load) => {
-            out.push(5);
+            put_kind(&mut out, [5, 8], &load.map);
             out.extend(load.address.to_le_bytes());
             put_length4(&mut out, &load.guest);
             out.extend(&load.guest);
@@ -49,10 +49,23 @@ fn body(question: &Question) -> Vec<u8> {
     out
 }
 
-fn put_load(out: &mut Vec<u8>, kind: u8, load: &Load) {
+/// The kind without a map, or the one with a map and the map.
+fn put_kind(out: &mut Vec<u8>, [without, with]: [u8; 2], map: &Map) {
+    let Some(numbers) = map else {
+        return out.push(without);
+    };
+    let count = u8::try_from(numbers.len()).expect("a generated map has at most 255 numbers");
+    out.extend([with, count]);
+    for number in numbers {
+        out.extend(number.to_le_bytes());
+    }
+}
+
+fn put_load(out: &mut Vec<u8>, kinds: [u8; 2], load: &Load) {
     let options = load.options;
     let flags = u8::from(options.offset.is_some()) + 2 * u8::from(options.highmem.is_some());
-    out.extend([kind, flags]);
+    put_kind(out, kinds, &load.map);
+    out.push(flags);
     out.extend(options.offset.unwrap_or(0).to_le_bytes());
     out.extend(options.highmem.unwrap_or(0).to_le_bytes());
     put_length4(out, &load.image);

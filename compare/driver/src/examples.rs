@@ -29,6 +29,7 @@ pub fn small_elf() -> Load {
     put(&mut image, 120, &[0xaa, 0xbb, 0xcc]);
     Load {
         options: Options::default(),
+        map: None,
         image,
         guest: guest(32),
     }
@@ -119,6 +120,7 @@ fn smallest(bytes: &[(usize, u8)], ff: &[Range<usize>], guest_length: usize) -> 
     }
     Load {
         options: Options::default(),
+        map: None,
         image,
         guest: guest(guest_length),
     }
@@ -135,6 +137,7 @@ pub fn small_bzimage() -> Load {
     put(&mut image, 1024, &[0xaa, 0xbb, 0xcc]);
     Load {
         options: Options::default(),
+        map: None,
         image,
         guest: guest(12),
     }
@@ -185,6 +188,7 @@ pub fn all() -> Vec<Question> {
         id: Some(42),
     };
     let line_load = LineLoad {
+        map: None,
         address: 3,
         guest: guest(12),
         calls: vec![Call::New { capacity: 8 }, key_value.clone()],

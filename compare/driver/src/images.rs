@@ -52,6 +52,7 @@ fn questions(image: &[u8]) -> Vec<Question> {
             offset,
             highmem: None,
         },
+        map: None,
         image: image.to_vec(),
         guest: Rng::new(1).bytes(guest),
     };

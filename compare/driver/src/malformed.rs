@@ -3,11 +3,13 @@
 /// Framed questions, in an order in which each is answered: the last is cut short by the end of the input.
 pub fn all() -> Vec<(Vec<u8>, &'static str)> {
     let lengths = "malformed: the lengths of image and guest";
+    let map = "malformed: the map";
+    let over_nothing = |kind| [&[kind, 1][..], &[0; 8]].concat();
     let mut load = vec![1; 26];
     load[18] = 9;
     let mut questions: Vec<_> = [
         (vec![], "malformed: no such kind"),
-        (vec![6], "malformed: no such kind"),
+        (vec![255], "malformed: no such kind"),
         (vec![1], lengths),
         (load, lengths),
         (vec![3, 0, 0], lengths),
@@ -16,6 +18,13 @@ pub fn all() -> Vec<(Vec<u8>, &'static str)> {
         (vec![4, 1, 8, 0, 0], "line malformed"),
         (vec![4, 1, 8, 0, 0, 0, 2, 9, 0, b'a'], "line ok malformed"),
         (vec![5; 13], "malformed: the length of the guest"),
+        // no count of numbers, a number that is cut off, and a good map with nothing behind it
+        (vec![6], map),
+        (vec![7, 1, 0, 0, 0, 0, 0, 0, 0], map),
+        (vec![8, 255], map),
+        (vec![6, 0], lengths),
+        (over_nothing(7), lengths),
+        (over_nothing(8), "malformed: the length of the guest"),
     ]
     .into_iter()
     .map(|(body, line)| (framed(&body), line))

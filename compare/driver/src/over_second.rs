@@ -9,7 +9,7 @@ use second::Rules;
 #[path = "adapter.rs"]
 mod adapter;
 
-pub use adapter::answer_by;
+pub use adapter::{answer_by, line_of};
 
 /// The answer by the rules that the proved code is held to.
 pub fn answer(question: &Question) -> Answer {

@@ -1,5 +1,7 @@
 //! What is asked. `docs/PROBE.md` has the meaning of each kind; this is the same in Rust.
 
+use second::map::whole;
+
 /// An address that moves an image, and the lowest entry address; each may be left out.
 #[derive(Clone, Copy, Debug, Default, PartialEq, Eq)]
 pub struct Options {
@@ -7,10 +9,14 @@ pub struct Options {
     pub highmem: Option<u64>,
 }
 
-/// An image to load, and guest memory with its first content.
+/// The numbers of a map: start, size, start, size, and so on. Where none is given it is that of the whole slice.
+pub type Map = Option<Vec<u64>>;
+
+/// An image to load, and guest memory with its map and its first content.
 #[derive(Clone, Debug, Default, PartialEq, Eq)]
 pub struct Load {
     pub options: Options,
+    pub map: Map,
     pub image: Vec<u8>,
     pub guest: Vec<u8>,
 }
@@ -26,6 +32,7 @@ pub struct Walk {
 /// Calls that make a line, which is then put into guest memory.
 #[derive(Clone, Debug, Default, PartialEq, Eq)]
 pub struct LineLoad {
+    pub map: Map,
     pub address: u64,
     pub guest: Vec<u8>,
     pub calls: Vec<Call>,
@@ -126,5 +133,30 @@ impl Question {
             Question::LineLoad(load) => &load.guest,
             Question::Note(_) | Question::Line(_) => &[],
         }
+    }
+
+    /// The guest's map, where one is given.
+    pub fn map(&self) -> Option<&[u64]> {
+        match self {
+            Question::Elf(load) | Question::Bzimage(load) => load.map.as_deref(),
+            Question::LineLoad(load) => load.map.as_deref(),
+            Question::Note(_) | Question::Line(_) => None,
+        }
+    }
+
+    /// The numbers of the guest's map, whether it is given or that of the whole slice.
+    pub fn numbers(&self) -> Vec<u64> {
+        let given = self.map().map(<[u64]>::to_vec);
+        given.unwrap_or_else(|| whole(self.guest().len()))
+    }
+
+    /// The same question over a map; one without a guest stays as it is.
+    pub fn over(mut self, map: Map) -> Question {
+        match &mut self {
+            Question::Elf(load) | Question::Bzimage(load) => load.map = map,
+            Question::LineLoad(load) => load.map = map,
+            Question::Note(_) | Question::Line(_) => {}
+        }
+        self
     }
 }

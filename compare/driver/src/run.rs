@@ -16,6 +16,8 @@ const BATCH: usize = 64;
 const PART: u64 = 8192;
 /// One in so many random ELF loads is about the rules that depart from the published crate's.
 const DEPARTING: u64 = 4;
+/// One in so many random questions with a guest is over a map.
+const OVER_MAP: u64 = 3;
 /// The exhaustive questions of an area are dealt out to this many parts.
 pub const EXHAUSTIVE_PARTS: usize = 16;
 
@@ -41,10 +43,14 @@ pub struct Difference {
 #[derive(Default)]
 pub struct Outcome {
     pub cases: [u64; 5],
+    /// How many of them are over a map.
+    pub over_maps: u64,
     /// How often each refusal was the wanted answer.
     pub numbers: BTreeMap<u8, u64>,
     /// How many questions of each area each backend was compared on; the others lay outside its domain.
     pub compared: Vec<[u64; 5]>,
+    /// How many of these are over a map.
+    pub compared_over_maps: Vec<u64>,
     /// How many questions the proved code must answer otherwise than the published crate, by the departures that explain it.
     pub departures: Counts,
     pub difference_count: u64,
@@ -121,6 +127,7 @@ fn run_part(
 ) -> Outcome {
     let mut outcome = Outcome {
         compared: vec![[0; 5]; backends.len()],
+        compared_over_maps: vec![0; backends.len()],
         ..Outcome::default()
     };
     let mut batches = batches(plan.seed, area, source);
@@ -135,6 +142,7 @@ fn run_part(
         let answers: Vec<Answers> = answers.collect();
         outcome.cases[area as usize] += questions.len() as u64;
         for (question, answers) in questions.iter().zip(&answers) {
+            outcome.over_maps += u64::from(question.map().is_some());
             for number in answers.landed.numbers() {
                 *outcome.numbers.entry(number).or_default() += 1;
             }
@@ -159,9 +167,15 @@ fn batches(seed: u64, area: Area, source: Source) -> Box<dyn Iterator<Item = Que
         }
         Source::Random { part, count } => {
             let mut rng = Rng::for_part(seed, area as u64, part);
-            Box::new((0..count).map(move |index| match area {
-                Area::Elf if index % DEPARTING == 0 => generate::departing(&mut rng),
-                _ => generate::random(area, &mut rng),
+            Box::new((0..count).map(move |index| {
+                let question = match area {
+                    Area::Elf if index % DEPARTING == 0 => generate::departing(&mut rng),
+                    _ => generate::random(area, &mut rng),
+                };
+                match index % OVER_MAP {
+                    0 => generate::over_map(question, &mut rng),
+                    _ => question,
+                }
             }))
         }
     }
@@ -183,6 +197,7 @@ impl Outcome {
             let answer = answers.by(backend.rules());
             if !matches!(reply, Reply::Outside) {
                 self.compared[index][question.area() as usize] += 1;
+                self.compared_over_maps[index] += u64::from(question.map().is_some());
             }
             if !backend.agrees(question, answer, reply) {
                 self.difference_count += 1;
@@ -198,12 +213,18 @@ impl Outcome {
 
     fn add(&mut self, other: Outcome) {
         add_counts(&mut self.cases, &other.cases);
+        self.over_maps += other.over_maps;
         for (number, count) in other.numbers {
             *self.numbers.entry(number).or_default() += count;
         }
         self.compared.resize(other.compared.len(), [0; 5]);
         for (sum, compared) in self.compared.iter_mut().zip(&other.compared) {
             add_counts(sum, compared);
+        }
+        let of_other = &other.compared_over_maps;
+        self.compared_over_maps.resize(of_other.len(), 0);
+        for (sum, compared) in self.compared_over_maps.iter_mut().zip(of_other) {
+            *sum += compared;
         }
         for (names, count) in other.departures {
             *self.departures.entry(names).or_default() += count;
@@ -294,7 +315,9 @@ mod tests {
         assert_eq!(first.cases, [300, 300, 20, 9000, 300]);
         assert_eq!(first.numbers, outcome(5, 3).numbers);
         assert_ne!(first.numbers, outcome(6, 1).numbers);
+        assert_eq!(first.over_maps, 100 + 7 + 100);
         assert_eq!(first.difference_count, 0);
         assert_eq!(first.compared, [first.cases]);
+        assert_eq!(first.compared_over_maps, [first.over_maps]);
     }
 }

@@ -1,6 +1,6 @@
 //! Questions as a person reads them.
 
-use crate::question::{Call, Load, Question};
+use crate::question::{Call, Load, Map, Question};
 use std::fmt::Write;
 
 pub fn show(question: &Question) -> String {
@@ -15,8 +15,9 @@ pub fn show(question: &Question) -> String {
         ),
         Question::Line(calls) => format!("line calls\n{}", show_calls(calls)),
         Question::LineLoad(load) => format!(
-            "a line put to address {}\n{}{}",
+            "a line put to address {}{}\n{}{}",
             load.address,
+            show_map(&load.map),
             show_calls(&load.calls),
             show_bytes("guest", &load.guest)
         ),
@@ -33,7 +34,15 @@ fn show_load(load: &Load) -> String {
             text += &format!(", {name} {number} ({number:#x})");
         }
     }
+    text += &show_map(&load.map);
     text + "\n" + &show_bytes("image", &load.image) + &show_bytes("guest", &load.guest)
+}
+
+fn show_map(map: &Map) -> String {
+    let Some(numbers) = map else {
+        return String::new();
+    };
+    format!(", map {numbers:?}")
 }
 
 /// The length, and each run of bytes that are not 0 with its place.

@@ -1,6 +1,6 @@
 //! Makes a differing question as small as it can be while it still differs.
 
-use crate::question::{Call, Load, Question};
+use crate::question::{Call, Load, Map, Question};
 
 /// How many questions are asked at most in search of a smaller one.
 const PATIENCE: usize = 20_000;
@@ -62,6 +62,11 @@ fn smaller(question: &Question) -> Vec<Question> {
                 smaller.address = address;
                 all.push(smaller);
             }
+            for map in smaller_maps(&load.map) {
+                let mut smaller = load.clone();
+                smaller.map = map;
+                all.push(smaller);
+            }
             all.into_iter().map(Question::LineLoad).collect()
         }
     }
@@ -86,6 +91,9 @@ fn smaller_loads(load: &Load) -> impl Iterator<Item = Load> + '_ {
             all.push(changed(&|smaller| smaller.options.highmem = Some(number)));
         }
     }
+    for map in smaller_maps(&load.map) {
+        all.push(changed(&|smaller| smaller.map.clone_from(&map)));
+    }
     let guests = smaller_bytes(&load.guest).map(|guest| Load {
         guest,
         ..load.clone()
@@ -95,6 +103,30 @@ fn smaller_loads(load: &Load) -> impl Iterator<Item = Load> + '_ {
         ..load.clone()
     });
     all.into_iter().chain(guests).chain(images)
+}
+
+/// No map, one with a range or a number less, and one with a smaller number.
+fn smaller_maps(map: &Map) -> Vec<Map> {
+    let Some(numbers) = map else {
+        return vec![];
+    };
+    let mut all = vec![None];
+    for range in (0..numbers.len().saturating_sub(1)).step_by(2) {
+        let mut fewer = numbers.clone();
+        fewer.drain(range..range + 2);
+        all.push(Some(fewer));
+    }
+    for (index, number) in numbers.iter().enumerate() {
+        let mut fewer = numbers.clone();
+        fewer.remove(index);
+        all.push(Some(fewer));
+        for less in smaller_numbers(*number) {
+            let mut smaller = numbers.clone();
+            smaller[index] = less;
+            all.push(Some(smaller));
+        }
+    }
+    all
 }
 
 fn smaller_numbers(number: u64) -> impl Iterator<Item = u64> {
@@ -264,6 +296,18 @@ mod tests {
         });
         let wanted = vec![Call::InsertStr(vec![0x7f])];
         assert_eq!(smallest, Question::Line(wanted));
+    }
+
+    #[test]
+    fn a_map_loses_what_does_not_matter() {
+        let load = Load {
+            map: Some(vec![3, 4, 50, 9, 70, 8, 1]),
+            ..Load::default()
+        };
+        let smallest = shrink(Question::Elf(load), |question| {
+            question.map().is_some_and(|map| map.contains(&9))
+        });
+        assert_eq!(smallest.map(), Some(&[9][..]));
     }
 
     #[test]

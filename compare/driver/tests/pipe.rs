@@ -24,7 +24,9 @@ fn a_program_that_answers_right_has_no_difference() {
     assert!(output.status.success(), "{said}");
     let last = said.lines().last().unwrap();
     let counts = "elf 300, note 300, bzimage 30, line 300, load 300";
-    let wanted = format!("cases: {counts}; probe compared on {counts}; numbers reached:");
+    let wanted = format!(
+        "cases: {counts}; probe compared on {counts}; over maps: 210, probe 210; numbers reached:"
+    );
     assert!(last.starts_with(&wanted), "{last}");
     assert!(last.ends_with("unexplained: 0"), "{last}");
 }

@@ -6,6 +6,7 @@ pub mod images;
 pub mod memory;
 mod plain;
 mod plain_line;
+mod ranges;
 mod report;
 mod rounds;
 mod works;
@@ -15,7 +16,7 @@ use memory::{Memory, GUEST};
 use works::Pages;
 
 /// Without words: checks that all contestants do the same, measures them, and prints the tables. With the words CONTESTANT WORK
-/// TIMES: does one work so often, for a profiler to look at.
+/// TIMES, or `ranges` HEADERS RANGES TIMES: does one work so often, for a profiler to look at.
 pub fn run(published: Option<Box<dyn Contestant>>) {
     let mut contestants: Vec<Box<dyn Contestant>> = vec![Box::new(Plain), Box::new(Library)];
     contestants.extend(published);
@@ -25,6 +26,11 @@ pub fn run(published: Option<Box<dyn Contestant>>) {
         [] => {
             works::check(&works, &contestants);
             report::print(&works, &contestants);
+            ranges::print();
+        }
+        [word, headers, ranges, times] if word == "ranges" => {
+            let number = |word: &String| word.parse::<usize>().expect("a number");
+            ranges::repeat(number(headers), number(ranges), number(times) as u32);
         }
         [name, work, times] => {
             let contestant = contestants.iter().find(|one| one.name() == name);
@@ -35,6 +41,6 @@ pub fn run(published: Option<Box<dyn Contestant>>) {
             let mut guest = Memory::filled(GUEST, 1);
             work.repeat(contestant.as_ref(), Pages::Touched, &mut guest, times);
         }
-        _ => panic!("the words are CONTESTANT WORK TIMES, or none"),
+        _ => panic!("the words are CONTESTANT WORK TIMES, ranges HEADERS RANGES TIMES, or none"),
     }
 }

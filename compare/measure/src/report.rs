@@ -62,7 +62,7 @@ fn row(work: &Work, times: &Times, columns: &[Column]) {
     println!("| {} | {plain} | {} |", work.title, cells.join(" | "));
 }
 
-fn cell(ratio: Spread) -> String {
+pub fn cell(ratio: Spread) -> String {
     let Spread { low, median, high } = ratio;
     format!(
         "**{}** ({} to {})",
@@ -82,7 +82,7 @@ fn figure(ratio: f64) -> String {
 }
 
 /// Two digits, for orientation.
-fn duration(seconds: f64) -> String {
+pub fn duration(seconds: f64) -> String {
     match seconds {
         s if s >= 1e-3 => format!("{:.1} ms", s * 1e3),
         s => format!("{:.0} µs", s * 1e6),

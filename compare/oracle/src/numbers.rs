@@ -15,6 +15,15 @@ pub fn of_loader(error: loader::Error) -> u8 {
     }
 }
 
+/// Over a map the crate refuses a line that meets a hole with another error than one that passes the last region. The rules have one
+/// number for both.
+pub fn of_line_load(error: loader::Error, has_map: bool) -> u8 {
+    match error {
+        loader::Error::CommandLineCopy if has_map => 32,
+        error => of_loader(error),
+    }
+}
+
 fn of_elf(error: loader::elf::Error) -> u8 {
     use loader::elf::Error;
     match error {

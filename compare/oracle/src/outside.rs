@@ -138,38 +138,68 @@ fn empty_guests() {
     );
 }
 
+/// Regions that touch are one run of memory to the crate, and a bad map here. Regions with a hole between them it is compared on, but for
+/// what a failed copy leaves and for the name of a line's error.
 fn several_regions() {
-    let neighbours = [(GuestAddress(0), 17), (GuestAddress(17), 15)];
+    let touching = [(GuestAddress(0), 17), (GuestAddress(17), 15)];
     let hole = [(GuestAddress(0), 17), (GuestAddress(18), 14)];
-    let image = examples::small_elf().image;
-    for (regions, what) in [
-        (neighbours, "0 to 16 and 17 to 31"),
-        (hole, "0 to 16 and 18 to 31"),
+    for (regions, what, elf, bzimage, line) in [
+        (
+            touching,
+            "0 to 16 and 17 to 31",
+            "refused 77, nothing written",
+            "refused 77, nothing written",
+            "refused 77, nothing written",
+        ),
+        (
+            hole,
+            "0 to 16 and 18 to 31",
+            "refused 10, nothing written",
+            "refused 24, nothing written",
+            "refused 32, nothing written",
+        ),
     ] {
-        let memory = GuestMemoryMmap::from_ranges(&regions).expect("memory can be mapped");
-        let answer = outcome(run::<Elf>(&memory, &mut Cursor::new(&image)));
-        let bytes: Vec<String> = (16..19)
-            .map(
-                |address| match memory.read_obj::<u8>(GuestAddress(address)) {
-                    Ok(byte) => format!("{byte:02x}"),
-                    Err(_) => "none".into(),
-                },
-            )
-            .collect();
+        let memory = || GuestMemoryMmap::from_ranges(&regions).expect("memory can be mapped");
+        let small = memory();
+        let answer = outcome(run::<Elf>(
+            &small,
+            &mut Cursor::new(&examples::small_elf().image),
+        ));
         say(
             &format!("ELF, one segment of 3 bytes for address 16, regions {what}, first all 0"),
-            "guest memory is one run of bytes from 0",
-            format!("{answer}; addresses 16 to 18 hold {}", bytes.join(" ")),
+            elf,
+            format!("{answer}; {}", held(&small)),
+        );
+        let kernel = with_image(examples::small_bzimage(), |image| image[0x214] = 16);
+        let small = memory();
+        let answer = outcome(run::<BzImage>(&small, &mut Cursor::new(&kernel.image)));
+        say(
+            &format!("bzImage, a kernel of 3 bytes for address 16, regions {what}, first all 0"),
+            bzimage,
+            format!("{answer}; {}", held(&small)),
+        );
+        let text = Cmdline::try_from("ab", 8).expect("it fits");
+        let small = memory();
+        let answer = match load_cmdline(&small, GuestAddress(16), &text) {
+            Ok(()) => "accepted".into(),
+            Err(error) => format!("{error:?}"),
+        };
+        say(
+            &format!("the line \"ab\" put to address 16, regions {what}, first all 0"),
+            line,
+            format!("{answer}; {}", held(&small)),
         );
     }
-    let line = Cmdline::try_from("ab", 8).expect("it fits");
-    let memory = GuestMemoryMmap::<()>::from_ranges(&hole).expect("memory can be mapped");
-    let answer = load_cmdline(&memory, GuestAddress(16), &line).map_err(numbers::of_loader);
-    say(
-        "the line \"ab\" put to address 16, regions 0 to 16 and 18 to 31",
-        "guest memory is one run of bytes from 0",
-        format!("{answer:?} (255: CommandLineCopy)"),
-    );
+}
+
+/// What addresses 16 to 18 hold.
+fn held(memory: &GuestMemoryMmap) -> String {
+    let byte = |address| match memory.read_obj::<u8>(GuestAddress(address)) {
+        Ok(byte) => format!("{byte:02x}"),
+        Err(_) => "none".into(),
+    };
+    let bytes: Vec<String> = (16..19).map(byte).collect();
+    format!("addresses 16 to 18 hold {}", bytes.join(" "))
 }
 
 fn files() {
@@ -272,7 +302,7 @@ fn memory_of(load: &Load) -> GuestMemoryMmap {
 fn loaded<L: KernelLoader>(load: &Load) -> String {
     let memory = memory_of(load);
     let answer = outcome(run::<L>(&memory, &mut Cursor::new(&load.image)));
-    let after = content(&memory, load.guest.len());
+    let after = content(&memory, &load.guest);
     let changed: Vec<String> = (0..after.len())
         .filter(|place| after[*place] != load.guest[*place])
         .map(|place| place.to_string())

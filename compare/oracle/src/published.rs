@@ -58,7 +58,7 @@ impl Published {
     }
 
     fn elf(&mut self, load: &Load) -> Answer {
-        let memory = self.guests.holding(&load.guest);
+        let memory = self.guests.holding(&load.guest, load.map.as_deref());
         let outcome = run::<Elf>(memory, load.options, &load.image);
         Answer::Elf {
             outcome: outcome.map(|loaded| ElfLoaded {
@@ -66,12 +66,12 @@ impl Published {
                 end: loaded.kernel_end,
                 pvh: pvh(loaded.pvh_boot_cap),
             }),
-            guest: content(memory, load.guest.len()),
+            guest: content(memory, &load.guest),
         }
     }
 
     fn bzimage(&mut self, load: &Load) -> Answer {
-        let memory = self.guests.holding(&load.guest);
+        let memory = self.guests.holding(&load.guest, load.map.as_deref());
         let outcome = run::<BzImage>(memory, load.options, &load.image);
         Answer::Bzimage {
             outcome: outcome.map(|loaded| BzimageLoaded {
@@ -81,7 +81,7 @@ impl Published {
                     .setup_header
                     .map_or(vec![], |header| header.as_slice().to_vec()),
             }),
-            guest: content(memory, load.guest.len()),
+            guest: content(memory, &load.guest),
         }
     }
 
@@ -96,7 +96,7 @@ impl Published {
         put(&mut image, 72, &(walk.place + WALK_FRONT).to_le_bytes());
         put(&mut image, 96, &walk.size.to_le_bytes());
         image.extend(&walk.image);
-        let memory = self.guests.holding(&[0]);
+        let memory = self.guests.holding(&[0], None);
         let loaded = run::<Elf>(memory, Options::default(), &image)?;
         Ok(NoteWalked {
             pvh: pvh(loaded.pvh_boot_cap),
@@ -106,12 +106,12 @@ impl Published {
 
     fn line_load(&mut self, load: &LineLoad) -> Answer {
         let (calls, line) = lines::answer_calls(&load.calls);
-        let memory = self.guests.holding(&load.guest);
+        let memory = self.guests.holding(&load.guest, load.map.as_deref());
         let outcome = load_cmdline(memory, GuestAddress(load.address), &line);
         Answer::LineLoad {
             calls,
-            outcome: outcome.map_err(numbers::of_loader),
-            guest: content(memory, load.guest.len()),
+            outcome: outcome.map_err(|error| numbers::of_line_load(error, load.map.is_some())),
+            guest: content(memory, &load.guest),
         }
     }
 }
@@ -144,6 +144,24 @@ mod tests {
             assert!(matches!(reply, Reply::Answer(_)));
             assert!(published.agrees(&question, &wanted, &reply), "{reply:?}");
         }
+    }
+
+    #[test]
+    fn the_crate_answers_over_a_region_for_each_range() {
+        let mut published = Published::default();
+        let mut asked = 0;
+        for question in examples::all() {
+            let length = question.guest().len() as u64;
+            for hole in 1..length.saturating_sub(1) {
+                let map = vec![0, hole, hole + 1, length - hole - 1];
+                let question = question.clone().over(Some(map));
+                let wanted = over_second::answer_by(&question, published.rules());
+                let reply = published.ask(&question);
+                asked += usize::from(matches!(reply, Reply::Answer(_)));
+                assert!(published.agrees(&question, &wanted, &reply), "{reply:?}");
+            }
+        }
+        assert!(asked > 200, "{asked}");
     }
 
     #[test]

@@ -14,12 +14,13 @@ impl Backend for Proved {
     }
 
     fn ask(&mut self, question: &Question) -> Reply {
+        let map = question.numbers();
         Reply::Answer(match question {
-            Question::Elf(load) => loads::elf(load),
+            Question::Elf(load) => loads::elf(load, &map),
             Question::Note(walk) => loads::note(walk),
-            Question::Bzimage(load) => loads::bzimage(load),
+            Question::Bzimage(load) => loads::bzimage(load, &map),
             Question::Line(calls) => lines::calls(calls),
-            Question::LineLoad(load) => lines::load(load),
+            Question::LineLoad(load) => lines::load(load, &map),
         })
     }
 }

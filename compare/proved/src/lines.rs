@@ -18,7 +18,7 @@ pub fn calls(calls: &[Call]) -> Answer {
     Answer::Line(answer_calls(calls).0)
 }
 
-pub fn load(load: &LineLoad) -> Answer {
+pub fn load(load: &LineLoad, map: &[u64]) -> Answer {
     let (calls, line) = answer_calls(&load.calls);
     let mut guest = load.guest.clone();
     // SAFETY: see above.
@@ -26,6 +26,8 @@ pub fn load(load: &LineLoad) -> Answer {
         entry::rekusoyen_line_load(
             guest.as_mut_ptr(),
             guest.len(),
+            map.as_ptr(),
+            map.len(),
             load.address,
             line.as_ptr(),
             line.len(),

@@ -27,7 +27,7 @@ fn pvh(code: u64, address: u64, place: u64, size: u64) -> Pvh {
     }
 }
 
-pub fn elf(load: &Load) -> Answer {
+pub fn elf(load: &Load, map: &[u64]) -> Answer {
     let mut guest = load.guest.clone();
     let mut out = [7u64; entry::ELF_LOAD_OUT];
     let options = load.options;
@@ -37,6 +37,8 @@ pub fn elf(load: &Load) -> Answer {
         entry::rekusoyen_elf_load(
             guest.as_mut_ptr(),
             guest.len(),
+            map.as_ptr(),
+            map.len(),
             load.image.as_ptr(),
             load.image.len(),
             flags(options),
@@ -73,7 +75,7 @@ pub fn note(walk: &Walk) -> Answer {
     }))
 }
 
-pub fn bzimage(load: &Load) -> Answer {
+pub fn bzimage(load: &Load, map: &[u64]) -> Answer {
     let mut guest = load.guest.clone();
     let mut out = [0u64; 2];
     let mut header = [0u8; entry::SETUP_HEADER_SIZE];
@@ -83,6 +85,8 @@ pub fn bzimage(load: &Load) -> Answer {
         entry::rekusoyen_bzimage_load(
             guest.as_mut_ptr(),
             guest.len(),
+            map.as_ptr(),
+            map.len(),
             load.image.as_ptr(),
             load.image.len(),
             flags(options),

@@ -1,6 +1,7 @@
 //! Loading a bzImage into guest memory.
 
-use crate::fields::{range, u16_at, u32_at, within_limit};
+use crate::fields::{u16_at, u32_at, within_limit};
+use crate::map::Map;
 use crate::Refusal;
 
 /// Where the setup header begins in the image, and how many bytes it has.
@@ -45,15 +46,17 @@ pub struct Loaded {
     pub header: [u8; HEADER_SIZE],
 }
 
-/// Loads the kernel of `image` into `guest`. A refusal writes nothing.
+/// Loads the kernel of `image` into one of the ranges of `guest` that the numbers of `map` give. A refusal writes nothing.
 pub fn load(
     image: &[u8],
     guest: &mut [u8],
+    map: &[u64],
     offset: Option<u64>,
     highmem: Option<u64>,
 ) -> Result<Loaded, Refusal> {
     within_limit(image.len())?;
     within_limit(guest.len())?;
+    let map = Map::from_numbers(map, guest.len())?;
     let mut header = read_header(image);
     if !is_bzimage(&header) {
         return Err(Refusal::InvalidBzImage);
@@ -70,7 +73,7 @@ pub fn load(
     let kernel = &image[setup_size..];
     // an empty kernel is accepted at any address, also at one outside the guest
     if !kernel.is_empty() {
-        let place = range(guest.len(), u128::from(load), kernel.len() as u128);
+        let place = map.room(load, kernel.len() as u64);
         let place = place.ok_or(Refusal::ReadBzImageCompressedKernel)?;
         guest[place].copy_from_slice(kernel);
     }
@@ -107,6 +110,18 @@ fn setup_size(header: &[u8; HEADER_SIZE]) -> usize {
 #[cfg(test)]
 mod tests {
     use super::*;
+    use crate::map::whole;
+
+    /// A load over the whole slice.
+    fn load(
+        image: &[u8],
+        guest: &mut [u8],
+        offset: Option<u64>,
+        highmem: Option<u64>,
+    ) -> Result<Loaded, Refusal> {
+        let map = whole(guest.len());
+        super::load(image, guest, &map, offset, highmem)
+    }
 
     fn image(sectors: u8, length: usize) -> Vec<u8> {
         let mut image = vec![0; length];
@@ -181,5 +196,20 @@ mod tests {
             assert_eq!(answer, Err(Refusal::InvalidBzImage));
         }
         assert_eq!(load(&[], &mut [], None, None), Err(Refusal::InvalidBzImage));
+    }
+
+    #[test]
+    fn a_kernel_lies_within_one_range_and_an_empty_one_anywhere() {
+        let loaded = |length: usize, map: &[u64]| {
+            super::load(&image(1, length), &mut [0; 12], map, None, None).map(|_| ())
+        };
+        assert_eq!(loaded(1027, &[4, 3]), Ok(()));
+        let no_room = Err(Refusal::ReadBzImageCompressedKernel);
+        for map in [&[0, 5, 6, 6][..], &[5, 7], &[0, 6], &[]] {
+            assert_eq!(loaded(1027, map), no_room, "{map:?}");
+            assert_eq!(loaded(1024, map), Ok(()));
+        }
+        let answer = super::load(&[], &mut [0; 12], &[0, 5, 5, 7], None, None);
+        assert_eq!(answer, Err(Refusal::BadMap));
     }
 }

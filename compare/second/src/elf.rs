@@ -1,6 +1,7 @@
 //! Loading an ELF image into guest memory.
 
 use crate::fields::{range, u16_at, u32_at, u64_at, within_limit, ADDRESS_LIMIT};
+use crate::map::Map;
 use crate::note::{self, Pvh};
 use crate::{Departure, Refusal, Rules};
 
@@ -35,16 +36,18 @@ struct ProgramHeader {
     memory_size: u64,
 }
 
-/// Loads `image` into `guest`. By the published rules a refusal leaves the segments before the refused header written.
+/// Loads `image` into the ranges of `guest` that the numbers of `map` give. By the published rules a refusal leaves the segments
+/// before the refused header written.
 pub fn load(
     rules: Rules,
     image: &[u8],
     guest: &mut [u8],
+    map: &[u64],
     offset: Option<u64>,
     highmem: Option<u64>,
 ) -> Result<Loaded, Refusal> {
     let mut memory = guest.to_vec();
-    let outcome = load_into(rules, image, &mut memory, offset, highmem);
+    let outcome = load_into(rules, image, &mut memory, map, offset, highmem);
     if outcome.is_ok() || !rules.has(Departure::L13) {
         guest.copy_from_slice(&memory);
     }
@@ -56,11 +59,13 @@ fn load_into(
     rules: Rules,
     image: &[u8],
     guest: &mut [u8],
+    map: &[u64],
     offset: Option<u64>,
     highmem: Option<u64>,
 ) -> Result<Loaded, Refusal> {
     within_limit(image.len())?;
     within_limit(guest.len())?;
+    let map = Map::from_numbers(map, guest.len())?;
     let header = read_header(image)?;
     if highmem.is_some_and(|lowest| header.entry < lowest) {
         return Err(Refusal::InvalidEntryAddress);
@@ -74,7 +79,7 @@ fn load_into(
                 return Err(Refusal::InvalidProgramHeaderFileSize);
             }
             TYPE_LOAD if program_header.file_size > 0 => {
-                let segment_end = load_segment(image, guest, offset, &program_header)?;
+                let segment_end = load_segment(image, guest, &map, offset, &program_header)?;
                 end = end.max(segment_end);
             }
             TYPE_LOAD if rules.has(Departure::L3) && program_header.memory_size > 0 => {
@@ -147,13 +152,14 @@ fn is_overfull(segment: &ProgramHeader) -> bool {
 fn load_segment(
     image: &[u8],
     guest: &mut [u8],
+    map: &Map,
     offset: Option<u64>,
     segment: &ProgramHeader,
 ) -> Result<u64, Refusal> {
     let address = moved(segment.address, offset).ok_or(Refusal::InvalidProgramHeaderAddress)?;
     let size = u128::from(segment.file_size);
     let from = range(image.len(), u128::from(segment.offset), size);
-    let to = range(guest.len(), u128::from(address), size);
+    let to = map.room(address, segment.file_size);
     let (Some(from), Some(to)) = (from, to) else {
         return Err(Refusal::ReadKernelImage);
     };
@@ -192,8 +198,21 @@ fn moved(address: u64, by: Option<u64>) -> Option<u64> {
 #[cfg(test)]
 mod tests {
     use super::*;
+    use crate::map::whole;
 
     const PUBLISHED: Rules = Rules::PUBLISHED;
+
+    /// A load over the whole slice.
+    fn load(
+        rules: Rules,
+        image: &[u8],
+        guest: &mut [u8],
+        offset: Option<u64>,
+        highmem: Option<u64>,
+    ) -> Result<Loaded, Refusal> {
+        let map = whole(guest.len());
+        super::load(rules, image, guest, &map, offset, highmem)
+    }
 
     fn put(image: &mut [u8], place: usize, bytes: &[u8]) {
         image[place..place + bytes.len()].copy_from_slice(bytes);
@@ -466,5 +485,32 @@ mod tests {
         let mut guest = [0x55; 32];
         assert!(load(rules, &small(), &mut guest, None, None).is_ok());
         assert_eq!(guest[16..19], [0xaa, 0xbb, 0xcc]);
+    }
+
+    #[test]
+    fn a_segment_lies_within_one_range() {
+        let loaded = |map: &[u64]| {
+            let mut guest = [0x55; 32];
+            let answer = super::load(PUBLISHED, &small(), &mut guest, map, None, None);
+            answer.map(|_| guest[16..19].to_vec())
+        };
+        let written = Ok(vec![0xaa, 0xbb, 0xcc]);
+        for map in [[16, 3, 20, 1], [0, 15, 16, 16], [0, 1, 2, 30]] {
+            assert_eq!(loaded(&map), written, "{map:?}");
+        }
+        let no_room = Err(Refusal::ReadKernelImage);
+        for map in [[0, 17, 18, 14], [0, 18, 19, 13], [17, 3, 30, 1]] {
+            assert_eq!(loaded(&map), no_room, "{map:?}");
+        }
+        assert_eq!(loaded(&[]), no_room);
+    }
+
+    #[test]
+    fn a_bad_map_is_refused_before_anything_is_read() {
+        for map in [&[0, 17, 17, 15][..], &[0, 33], &[0, 0], &[0]] {
+            let mut guest = [0x55; 32];
+            let answer = super::load(PUBLISHED, &[], &mut guest, map, None, None);
+            assert_eq!(answer, Err(Refusal::BadMap));
+        }
     }
 }

@@ -10,6 +10,7 @@ pub mod elf;
 pub mod fields;
 pub mod line;
 pub mod loading;
+pub mod map;
 pub mod note;
 pub mod refusal;
 pub mod rules;

@@ -38,6 +38,7 @@ pub enum Refusal {
     SliceTooLong = 60,
     BadList = 61,
     NoRoom = 62,
+    BadMap = 77,
 }
 
 impl Refusal {

@@ -1,3 +1,4 @@
+pub mod BoolLaws
 pub mod PickLaws
 pub mod TestsLaws
 pub mod KeepingLaws

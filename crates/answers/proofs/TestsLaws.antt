@@ -22,6 +22,12 @@ pub first-held : (t : Test) (ts : List Test) → t .0 ≡ true → askedAll Open
 unfolding asked pick
 first-held t ts e = rw e
 
+-- a test that holds changes nothing
+pub holds-passed : (gate : Gate) (refusal : Refusal) → asked gate true refusal ≡ gate
+unfolding asked pick
+holds-passed Open refusal = refl
+holds-passed (Shut first) refusal = refl
+
 pub first-failed : (t : Test) (ts : List Test) → t .0 ≡ false → askedAll Open (t ∷ ts) ≡ Shut (t .1)
 unfolding asked pick
 first-failed t ts e = ap (λ b. askedAll (asked Open b (t .1)) ts) e ∙ shut-stays ts (t .1)

@@ -38,3 +38,4 @@ numberOf refusal.NullTerminator = 51
 numberOf refusal.SliceTooLong = 60
 numberOf refusal.BadList = 61
 numberOf refusal.NoRoom = 62
+numberOf refusal.BadMap = 77

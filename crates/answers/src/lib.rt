@@ -45,6 +45,7 @@ pub enum Refusal {
     SliceTooLong,
     BadList,
     NoRoom,
+    BadMap,
 }
 
 // The number of a refusal, for callers that take numbers.
@@ -86,6 +87,7 @@ pub fn number(refusal: Refusal) -> u32
         Refusal::SliceTooLong => 60,
         Refusal::BadList => 61,
         Refusal::NoRoom => 62,
+        Refusal::BadMap => 77,
     }
 }
 

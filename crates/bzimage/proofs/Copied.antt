@@ -9,6 +9,7 @@ use lib.ListN.{length, getD}
 use lib.Seq.{getD-drop}
 use Rattle.answers.specs.declared.Refusal.{Refusal}
 use Rattle.guest.specs.declared.Given.{Given}
+use Rattle.guest.specs.declared.Map.{Map}
 use Rattle.guest.specs.Loading.{Plan}
 use Rattle.guest.specs.Room.{room, memoryOf}
 use Rattle.guest.specs.Stream.{pour, Stands}
@@ -41,21 +42,21 @@ stands-copied s address stands =
 
 -- ---- of the load's contract
 
-module _ (image : List ℕ) (offset highmem : Given) (guest : List ℕ) {r : Outcome} {after : List ℕ} (loads : KernelLoads image offset highmem guest r after) where
-  planned : planOf image (memoryOf guest) offset highmem .answer .answer ≡ r .answer
+module _ (image : List ℕ) (offset highmem : Given) (map : Map) (guest : List ℕ) {r : Outcome} {after : List ℕ} (loads : KernelLoads image offset highmem map guest r after) where
+  planned : planOf image (memoryOf guest map) offset highmem .answer .answer ≡ r .answer
   planned = sym (ap (λ (o : Outcome). o .answer) (loads .answer))
 
   pub accepted-copies : {k : KernelLoaderResult} → r .answer ≡ Loaded k → Copied image (k .«kernel_load» .0) guest after
   accepted-copies {k} e =
-      let loaded = plan-loaded image (memoryOf guest) offset highmem (planned ∙ e) in
+      let loaded = plan-loaded image (memoryOf guest map) offset highmem (planned ∙ e) in
       let len = length-kernel image in
-      let has : 0 < length (kernelOf image) → room (memoryOf guest) (k .«kernel_load» .0) (length (kernelOf image)) ≡ true =
-      λ some. rw (len, loaded .1) (hold-room image (memoryOf guest) offset highmem (loaded .0) (omega arith)) in
+      let has : 0 < length (kernelOf image) → room (memoryOf guest map) (k .«kernel_load» .0) (length (kernelOf image)) ≡ true =
+      λ some. rw (len, loaded .1) (hold-room image (memoryOf guest map) offset highmem (loaded .0) (omega arith)) in
       stands-copied image (k .«kernel_load» .0)
-      (poured-stands (kernelOf image) (k .«kernel_load» .0) guest (memoryOf guest) has (omega arith)
-      (loads .memory ∙ ap (λ (p : Plan Outcome). pour (p .stream) guest) (loaded-plan image (memoryOf guest) offset highmem (planned ∙ e))))
+      (poured-stands (kernelOf image) (k .«kernel_load» .0) guest (memoryOf guest map) has (omega arith)
+      (loads .memory ∙ ap (λ (p : Plan Outcome). pour (p .stream) guest) (loaded-plan image (memoryOf guest map) offset highmem (planned ∙ e))))
 
   pub refused-untouched : {refusal : Refusal} → r .answer ≡ Refused refusal → after ≡ guest
   refused-untouched e =
-      nothing-written (planOf image (memoryOf guest) offset highmem) guest after loads
-      (ap (λ (p : Plan Outcome). p .stream) (refused-plan image (memoryOf guest) offset highmem (planned ∙ e)))
+      nothing-written (planOf image (memoryOf guest map) offset highmem) guest after loads
+      (ap (λ (p : Plan Outcome). p .stream) (refused-plan image (memoryOf guest map) offset highmem (planned ∙ e)))

@@ -8,6 +8,7 @@ use lib.ListN.{length}
 use Rattle.answers.specs.Tests.{AllHold}
 use Rattle.answers.proofs.TestsLaws.{hold-left, hold-right, hold-append}
 use Rattle.guest.specs.declared.Given.{Given}
+use Rattle.guest.specs.declared.Map.{Map}
 use Rattle.guest.specs.declared.Memory.{Memory}
 use Rattle.guest.specs.Lent.{lentTests}
 use Rattle.guest.specs.Loading.{Plan}
@@ -25,25 +26,25 @@ no-bytes : (vs : List ℕ) → length vs ≡ 0 → vs ≡ []
 no-bytes [] e = refl
 no-bytes (v ∷ vs) e = absurd (omega arith)
 
-module _ (image : List ℕ) (offset highmem : Given) (guest : List ℕ) {r : Outcome} {after : List ℕ} (loads : KernelLoads image offset highmem guest r after)
+module _ (image : List ℕ) (offset highmem : Given) (map : Map) (guest : List ℕ) {r : Outcome} {after : List ℕ} (loads : KernelLoads image offset highmem map guest r after)
     (empty : kernelSize image ≡ 0) where
   -- where the tests of the image hold once, with any offset and memory
-  pub accepted-anywhere : (other : Given) (m : Memory) → AllHold (tests image m other highmem) → AllHold (lentTests (length image) (memoryOf guest))
+  pub accepted-anywhere : (other : Given) (m : Memory) → AllHold (tests image m other highmem) → AllHold (lentTests (length image) (memoryOf guest map))
       → r ≡ loadedAt image (loadOf image offset)
   accepted-anywhere other m once lent =
       let of-image =
       hold-left (imageTests image highmem) (roomTests image m other)
       (hold-right (lentTests (length image) m) (imageTests image highmem ++ roomTests image m other) once) in
-      let rooms : AllHold (roomTests image (memoryOf guest) offset) = (room-for-none (memoryOf guest) (loadOf image offset .0) (kernelSize image) empty, tt) in
-      accepted-where image offset highmem guest loads
-      (hold-append (lentTests (length image) (memoryOf guest)) (imageTests image highmem ++ roomTests image (memoryOf guest) offset) lent
-      (hold-append (imageTests image highmem) (roomTests image (memoryOf guest) offset) of-image rooms))
+      let rooms : AllHold (roomTests image (memoryOf guest map) offset) = (room-for-none (memoryOf guest map) (loadOf image offset .0) (kernelSize image) empty, tt) in
+      accepted-where image offset highmem map guest loads
+      (hold-append (lentTests (length image) (memoryOf guest map)) (imageTests image highmem ++ roomTests image (memoryOf guest map) offset) lent
+      (hold-append (imageTests image highmem) (roomTests image (memoryOf guest map) offset) of-image rooms))
 
   -- whatever is answered
   pub empty-untouched : after ≡ guest
   unfolding streamAt
   empty-untouched =
       let none = no-bytes (kernelOf image) (length-kernel image ∙ empty) in
-      nothing-written (planOf image (memoryOf guest) offset highmem) guest after loads
-      (behind-with refusedAs (tests image (memoryOf guest) offset highmem) (kernelPlan image (loadOf image offset)) (λ (p : Plan Outcome). p .stream ≡ [])
+      nothing-written (planOf image (memoryOf guest map) offset highmem) guest after loads
+      (behind-with refusedAs (tests image (memoryOf guest map) offset highmem) (kernelPlan image (loadOf image offset)) (λ (p : Plan Outcome). p .stream ≡ [])
       (λ _. ap (streamAt (loadOf image offset .0)) none) (λ _ _. refl))

@@ -4,6 +4,8 @@ pub mod KernelLaws
 pub mod PlanLaws
 pub mod Copied
 pub mod LongerGuest
+pub mod HolesUntouched
+pub mod WholeSlice
 pub mod Refusals
 pub mod Returned
 pub mod Outcomes

@@ -14,6 +14,7 @@ use Rattle.answers.specs.declared.Gate.{Gate}
 use Rattle.answers.specs.declared.Gate.the-variants.{Open, Shut}
 use Rattle.answers.proofs.TestsLaws.{open-all, hold-right}
 use Rattle.guest.specs.declared.Given.{Given}
+use Rattle.guest.specs.declared.Map.{Map}
 use Rattle.guest.specs.declared.GuestAddress.{GuestAddress}
 use Rattle.guest.specs.declared.Memory.{Memory}
 use Rattle.guest.specs.Addresses.{givenOr}
@@ -116,11 +117,11 @@ module _ (s : List ℕ) (m : Memory) (offset highmem : Given) where
 -- ---- the copy
 
 -- copying so many bytes from the setup size on is the load of a plan that loads
-pub copied-loads : (s : List ℕ) (offset highmem : Given) (guest : List ℕ) {r : Outcome} {k : KernelLoaderResult} {p n : ℕ} {after : List ℕ}
-    → r ≡ planOf s (memoryOf guest) offset highmem .answer → r .answer ≡ Loaded k → p ≡ setupSize s → n ≡ kernelSize s
-    → after ≡ pour (streamAt (k .«kernel_load» .0) (bytesAt s p n)) guest → KernelLoads s offset highmem guest r after
-copied-loads s offset highmem guest {k = k} er e ep en ea =
-    let planned = loaded-plan s (memoryOf guest) offset highmem (sym (ap (λ (o : Outcome). o .answer) er) ∙ e) in
+pub copied-loads : (s : List ℕ) (offset highmem : Given) (map : Map) (guest : List ℕ) {r : Outcome} {k : KernelLoaderResult} {p n : ℕ} {after : List ℕ}
+    → r ≡ planOf s (memoryOf guest map) offset highmem .answer → r .answer ≡ Loaded k → p ≡ setupSize s → n ≡ kernelSize s
+    → after ≡ pour (streamAt (k .«kernel_load» .0) (bytesAt s p n)) guest → KernelLoads s offset highmem map guest r after
+copied-loads s offset highmem map guest {k = k} er e ep en ea =
+    let planned = loaded-plan s (memoryOf guest map) offset highmem (sym (ap (λ (o : Outcome). o .answer) er) ∙ e) in
     record {
       answer = er;
       memory =
@@ -130,9 +131,9 @@ copied-loads s offset highmem guest {k = k} er e ep en ea =
     }
 
 -- and of one that refuses nothing is written
-pub refused-loads : (s : List ℕ) (offset highmem : Given) (guest : List ℕ) {r : Outcome} {refusal : Refusal}
-    → r ≡ planOf s (memoryOf guest) offset highmem .answer → r .answer ≡ Refused refusal → KernelLoads s offset highmem guest r guest
+pub refused-loads : (s : List ℕ) (offset highmem : Given) (map : Map) (guest : List ℕ) {r : Outcome} {refusal : Refusal}
+    → r ≡ planOf s (memoryOf guest map) offset highmem .answer → r .answer ≡ Refused refusal → KernelLoads s offset highmem map guest r guest
 unfolding pour
-refused-loads s offset highmem guest er e =
-    let planned = refused-plan s (memoryOf guest) offset highmem (sym (ap (λ (o : Outcome). o .answer) er) ∙ e) in
+refused-loads s offset highmem map guest er e =
+    let planned = refused-plan s (memoryOf guest map) offset highmem (sym (ap (λ (o : Outcome). o .answer) er) ∙ e) in
     record { answer = er; memory = ap (λ (q : Plan Outcome). pour (q .stream) guest) (sym planned) }

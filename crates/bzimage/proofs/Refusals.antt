@@ -7,6 +7,7 @@ use Rattle.answers.specs.Catalogue.{numberOf}
 use Rattle.answers.specs.Tests.{Test, AllHold, FirstFails}
 use Rattle.answers.specs.declared.Refusal.{Refusal}
 use Rattle.guest.specs.declared.Given.{Given}
+use Rattle.guest.specs.declared.Map.{Map}
 use Rattle.guest.specs.Loading.{Plan}
 use Rattle.guest.specs.Room.{memoryOf}
 use Rattle.guest.proofs.LoadingLaws.{all-planned, first-planned}
@@ -18,11 +19,11 @@ use Rattle.bzimage.specs.Kernel.{kernelSize, loadOf}
 use Rattle.bzimage.specs.Plan.{tests, loadedAt, refusedAs, kernelPlan, planOf, KernelLoads}
 use Rattle.bzimage.proofs.PlanLaws.{plan-loaded, plan-refused}
 
-module _ (image : List ℕ) (offset highmem : Given) (guest : List ℕ) {r : Outcome} {after : List ℕ} (loads : KernelLoads image offset highmem guest r after) where
+module _ (image : List ℕ) (offset highmem : Given) (map : Map) (guest : List ℕ) {r : Outcome} {after : List ℕ} (loads : KernelLoads image offset highmem map guest r after) where
   abbrev row : List Test
-  row = tests image (memoryOf guest) offset highmem
+  row = tests image (memoryOf guest map) offset highmem
 
-  planned : planOf image (memoryOf guest) offset highmem .answer .answer ≡ r .answer
+  planned : planOf image (memoryOf guest map) offset highmem .answer .answer ≡ r .answer
   planned = sym (ap (λ (o : Outcome). o .answer) (loads .answer))
 
   -- ---- accepted exactly where every test holds
@@ -31,7 +32,7 @@ module _ (image : List ℕ) (offset highmem : Given) (guest : List ℕ) {r : Out
   accepted-where h = loads .answer ∙ ap (λ (p : Plan Outcome). p .answer) (all-planned refusedAs row (kernelPlan image (loadOf image offset)) h)
 
   pub where-accepted : {k : KernelLoaderResult} → r .answer ≡ Loaded k → AllHold row
-  where-accepted e = plan-loaded image (memoryOf guest) offset highmem (planned ∙ e) .0
+  where-accepted e = plan-loaded image (memoryOf guest map) offset highmem (planned ∙ e) .0
 
   -- ---- refused exactly by the first test that fails
 
@@ -39,7 +40,7 @@ module _ (image : List ℕ) (offset highmem : Given) (guest : List ℕ) {r : Out
   refused-where f = loads .answer ∙ ap (λ (p : Plan Outcome). p .answer) (first-planned refusedAs row (kernelPlan image (loadOf image offset)) f)
 
   pub where-refused : {refusal : Refusal} → r .answer ≡ Refused refusal → FirstFails refusal row
-  where-refused e = plan-refused image (memoryOf guest) offset highmem (planned ∙ e)
+  where-refused e = plan-refused image (memoryOf guest map) offset highmem (planned ∙ e)
 
   -- ---- the same by the catalogue: no number with the load address and the kernel's end, or the refusal's number alone
 

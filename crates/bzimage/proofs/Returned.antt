@@ -12,6 +12,7 @@ use Rattle.fields.proofs.CopyingLaws.{sets-outside}
 use Rattle.fields.proofs.HasBytesLaws.{stored-at}
 use Rattle.fields.proofs.NumbersLaws.{length-le-bytes, le-low}
 use Rattle.guest.specs.declared.Given.{Given}
+use Rattle.guest.specs.declared.Map.{Map}
 use Rattle.guest.specs.Loading.{Plan}
 use Rattle.guest.specs.Room.{memoryOf}
 use Rattle.bzimage.specs.declared.Answer.the-variants.{Loaded, Refused}
@@ -52,19 +53,19 @@ header-returned image load =
 
 -- ---- of the load's contract
 
-module _ (image : List ℕ) (offset highmem : Given) (guest : List ℕ) {r : Outcome} {after : List ℕ} (loads : KernelLoads image offset highmem guest r after) where
-  planned : planOf image (memoryOf guest) offset highmem .answer .answer ≡ r .answer
+module _ (image : List ℕ) (offset highmem : Given) (map : Map) (guest : List ℕ) {r : Outcome} {after : List ℕ} (loads : KernelLoads image offset highmem map guest r after) where
+  planned : planOf image (memoryOf guest map) offset highmem .answer .answer ≡ r .answer
   planned = sym (ap (λ (o : Outcome). o .answer) (loads .answer))
 
   pub accepted-header : {k : KernelLoaderResult} → r .answer ≡ Loaded k → Returned image (k .«kernel_load» .0) (r .«setup_header»)
   unfolding loadedAt
   accepted-header {k} e =
-      let loaded = ap (λ (p : Plan Outcome). p .answer) (loaded-plan image (memoryOf guest) offset highmem (planned ∙ e)) in
+      let loaded = ap (λ (p : Plan Outcome). p .answer) (loaded-plan image (memoryOf guest map) offset highmem (planned ∙ e)) in
       subst⁻¹ (Returned image (k .«kernel_load» .0)) (ap (λ (o : Outcome). o .«setup_header») (loads .answer ∙ loaded))
       (header-returned image (k .«kernel_load» .0))
 
   pub refused-header : {refusal : Refusal} → r .answer ≡ Refused refusal → r .«setup_header» ≡ replicate headerSize 0
   unfolding refusedAs
   refused-header e =
-      let refused = ap (λ (p : Plan Outcome). p .answer) (refused-plan image (memoryOf guest) offset highmem (planned ∙ e)) in
+      let refused = ap (λ (p : Plan Outcome). p .answer) (refused-plan image (memoryOf guest map) offset highmem (planned ∙ e)) in
       ap (λ (o : Outcome). o .«setup_header») (loads .answer ∙ refused)

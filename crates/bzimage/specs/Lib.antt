@@ -5,3 +5,4 @@ pub mod Plan
 pub mod Copied
 pub mod Returned
 pub mod Answers
+pub mod WholeSlice

@@ -12,6 +12,7 @@ use Rattle.answers.specs.declared.Refusal.the-variants.{InvalidBzImage, Underfl
 use Rattle.fields.specs.Numbers.{le}
 use Rattle.guest.specs.declared.Given.{Given}
 use Rattle.guest.specs.declared.GuestAddress.{GuestAddress}
+use Rattle.guest.specs.declared.Map.{Map}
 use Rattle.guest.specs.declared.Memory.{Memory}
 use Rattle.guest.specs.Addresses.{amountOf}
 use Rattle.guest.specs.Lent.{lentTests}
@@ -72,6 +73,6 @@ planOf image m offset highmem = behindTests refusedAs (tests image m offset high
 abbrev pub ForRoom : Refusal → Type 0
 ForRoom refusal = refusal ≡ ReadBzImageCompressedKernel
 
--- a load of an image into guest memory that held `before`: it answers r and leaves `after`
-abbrev pub KernelLoads : List ℕ → Given → Given → List ℕ → Outcome → List ℕ → Type 0
-KernelLoads image offset highmem before r after = Loads (planOf image (memoryOf before) offset highmem) before r after
+-- a load of an image into guest memory with a map that held `before`: it answers r and leaves `after`
+abbrev pub KernelLoads : List ℕ → Given → Given → Map → List ℕ → Outcome → List ℕ → Type 0
+KernelLoads image offset highmem map before r after = Loads (planOf image (memoryOf before map) offset highmem) before r after

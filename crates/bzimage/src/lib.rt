@@ -13,6 +13,7 @@ use answers::Refusal;
 use guest::Given;
 use guest::GuestAddress;
 use guest::ImagePlace;
+use guest::Map;
 use guest::Memory;
 use guest::copying;
 
@@ -38,12 +39,19 @@ pub struct Outcome {
     pub setup_header: [u8; 123],
 }
 
-// Loads a kernel from a bzImage to guest memory: at the offset if one is given, else at `code32_start` of the setup header.
-pub fn load(guest: &mut [u8], image: &[u8], kernel_offset: Given, highmem_start: Given) -> Outcome
-    ensures { λ r. ⌜ KernelLoads (now (image .entry)) «kernel_offset» «highmem_start» (now (guest .entry)) r (now (guest .exit)) ⌝ }
+// Loads a kernel from a bzImage to guest memory, which the map's ranges are: at the offset if one is given, else at `code32_start` of the setup header.
+pub fn load(
+    guest: &mut [u8],
+    map: Map,
+    image: &[u8],
+    kernel_offset: Given,
+    highmem_start: Given,
+) -> Outcome
+    ensures { λ r. ⌜ KernelLoads (now (image .entry)) «kernel_offset» «highmem_start» map (now (guest .entry)) r (now (guest .exit)) ⌝ }
 {
     let memory = Memory {
         size: guest.len() as u64,
+        map: map,
     };
     let outcome = plan::plan_load(image, memory, kernel_offset, highmem_start);
     let answer = outcome.answer;

@@ -43,6 +43,7 @@ use Rattle.cmdline.proofs.MakingLaws.{allowed-most}
 use Rattle.cmdline.proofs.WritingLaws.{writes-any}
 use Rattle.guest.specs.Loading as loading
 use Rattle.guest.specs.Room.{memoryOf}
+use Rattle.guest.specs.declared.Map.{Map}
 use Rattle.guest.specs.Stream.{pour}
 use Rattle.loader.specs.declared.Answer.{Answer}
 use Rattle.loader.specs.declared.Answer.the-variants.{Refused}
@@ -465,14 +466,14 @@ module _ (a b out : List ℕ) {g : Gate} {one two : Header} (asks : g ≡ asked 
 
 -- ---- loading
 
-module _ (bytes : List ℕ) (address : ℕ) (guest : List ℕ) {header : Header} (reads : header ≡ Lines.headerBy Open bytes) where
+module _ (bytes : List ℕ) (address : ℕ) (map : Map) (guest : List ℕ) {header : Header} (reads : header ≡ Lines.headerBy Open bytes) where
   abbrev row : List Test
-  row = lines.tests (Lines.textIn bytes) (memoryOf guest) address
+  row = lines.tests (Lines.textIn bytes) (memoryOf guest map) address
 
   abbrev plan : loading.Plan Answer
   plan = lines.linePlan (Lines.textIn bytes) address
 
-  pub load-refused : {refusal : Refusal} {r : ℕ} → header .gate ≡ Shut refusal → r ≡ numberOf refusal → Lines.LineLoadsFrom bytes address guest r guest
+  pub load-refused : {refusal : Refusal} {r : ℕ} → header .gate ≡ Shut refusal → r ≡ numberOf refusal → Lines.LineLoadsFrom bytes address map guest r guest
   unfolding loading.behindTests lines.lineNumber pour
   load-refused {refusal} e er =
       let gate : Shut refusal ≡ askedAll Open (Lines.lineTests bytes ++ row) =
@@ -482,19 +483,21 @@ module _ (bytes : List ℕ) (address : ℕ) (guest : List ℕ) {header : Header}
         memory = ap (λ (g : Gate). pour (loading.behindGate Refused g plan .stream) guest) gate;
       }
 
-  pub load-told : {answer : Answer} {r : ℕ} {boot init after : List ℕ} → header .gate ≡ Open → boot ≡ take (header .boots) (drop Lines.bootPlace bytes)
-      → init ≡ take (header .inits) (drop Lines.initPlace bytes) → lines.LineLoads (writing.bare boot init) address guest answer after
-      → r ≡ lines.lineNumber answer → Lines.LineLoadsFrom bytes address guest r after
+  pub load-told : {m : Map} {answer : Answer} {r : ℕ} {boot init after : List ℕ} → header .gate ≡ Open → boot ≡ take (header .boots) (drop Lines.bootPlace bytes)
+      → init ≡ take (header .inits) (drop Lines.initPlace bytes) → m ≡ map
+      → lines.LineLoads (writing.bare boot init) address m guest answer after
+      → r ≡ lines.lineNumber answer → Lines.LineLoadsFrom bytes address map guest r after
   unfolding loading.behindTests Lines.headerBy
-  load-told {answer} {r} {boot} {init} {after} e eb ei loads er =
+  load-told {m} {answer} {r} {boot} {init} {after} e eb ei em loads er =
       let t = Lines.textIn bytes in
       let gate : askedAll Open row ≡ askedAll Open (Lines.lineTests bytes ++ row) =
       sym (asked-append Open (Lines.lineTests bytes) row ∙ ap (λ (g : Gate). askedAll g row) (sym (header-gate bytes reads) ∙ e)) in
       let same-boot : boot ≡ t .boot = eb ∙ ap (λ (h : Header). take (h .boots) (drop Lines.bootPlace bytes)) reads in
       let same-init : init ≡ t .init = ei ∙ ap (λ (h : Header). take (h .inits) (drop Lines.initPlace bytes)) reads in
-      let own : lines.LineLoads (writing.bare (t .boot) (t .init)) address guest answer after =
-      subst (λ (x : List ℕ). lines.LineLoads (writing.bare (t .boot) x) address guest answer after) same-init
-      (subst (λ (x : List ℕ). lines.LineLoads (writing.bare x init) address guest answer after) same-boot loads) in
+      let own : lines.LineLoads (writing.bare (t .boot) (t .init)) address map guest answer after =
+      subst (λ (x : List ℕ). lines.LineLoads (writing.bare (t .boot) x) address map guest answer after) same-init
+      (subst (λ (x : List ℕ). lines.LineLoads (writing.bare x init) address map guest answer after) same-boot
+      (subst (λ (x : Map). lines.LineLoads (writing.bare boot init) address x guest answer after) em loads)) in
       record {
         answer = er ∙ ap lines.lineNumber (own .answer) ∙ ap (λ (g : Gate). lines.lineNumber (loading.behindGate Refused g plan .answer)) gate;
         memory = own .memory ∙ ap (λ (g : Gate). pour (loading.behindGate Refused g plan .stream) guest) gate;

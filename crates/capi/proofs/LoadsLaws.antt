@@ -10,6 +10,7 @@ use Rattle.answers.specs.Pick.{pick}
 use Rattle.answers.specs.Catalogue.{numberOf}
 use Rattle.answers.specs.declared.Refusal.the-variants.{NoRoom}
 use Rattle.guest.specs.declared.Given.{Given}
+use Rattle.guest.specs.declared.Map.{Map}
 use Rattle.elf.specs.declared.Answer.{Answer}
 use Rattle.elf.specs.declared.ElfNote.{ElfNote}
 use Rattle.guest.specs.Room.{memoryOf}
@@ -34,25 +35,26 @@ passes x h e = rw h e
 
 -- ---- an ELF load
 
-module _ (image : List ℕ) (offset highmem : Given) (guest out : List ℕ) where
-  pub elf-unsized : {r : ℕ} → (length out ≡ 6 → ⊥) → r ≡ numberOf NoRoom → ElfLoads image offset highmem guest out r guest out
+module _ (image : List ℕ) (offset highmem : Given) (map : Map) (guest out : List ℕ) where
+  pub elf-unsized : {r : ℕ} → (length out ≡ 6 → ⊥) → r ≡ numberOf NoRoom → ElfLoads image offset highmem map guest out r guest out
   elf-unsized other e =
       let f = ne-eqb (length out) 6 other in
-      let plan = elf.planOf image (memoryOf guest) offset highmem in
+      let plan = elf.planOf image (memoryOf guest map) offset highmem in
       record {
         answer = passes (elfNumber (plan .answer)) f e;
         memory = passes (pour (plan .stream) guest) f refl;
         told = passes (sets out 0 (elfValues (plan .answer))) f refl;
       }
 
-  pub elf-sized : {o h : Given} {a : Answer} {r : ℕ} {after left : List ℕ} → length out ≡ 6 → o ≡ offset → h ≡ highmem → LoadSays image o h guest a after
-      → Tells (elfNumber a) (elfValues a) out r left → ElfLoads image offset highmem guest out r after left
-  elf-sized {o} {h} {a} same eo eh says tells =
+  pub elf-sized : {o h : Given} {m : Map} {a : Answer} {r : ℕ} {after left : List ℕ} → length out ≡ 6 → m ≡ map → o ≡ offset → h ≡ highmem
+      → LoadSays image o h m guest a after
+      → Tells (elfNumber a) (elfValues a) out r left → ElfLoads image offset highmem map guest out r after left
+  elf-sized {o} {h} {m} {a} same em eo eh says tells =
       let t = eq-eqb (length out) 6 same in
-      let is : a ≡ elf.planOf image (memoryOf guest) offset highmem .answer = says .answer ∙ rw (eo, eh) in
+      let is : a ≡ elf.planOf image (memoryOf guest map) offset highmem .answer = says .answer ∙ rw (em, eo, eh) in
       record {
         answer = picks (numberOf NoRoom) t (tells .answer ∙ ap elfNumber is);
-        memory = picks guest t (says .memory ∙ rw (eo, eh));
+        memory = picks guest t (says .memory ∙ rw (em, eo, eh));
         told = picks out t (tells .told ∙ ap (λ (x : Answer). sets out 0 (elfValues x)) is);
       }
 
@@ -78,11 +80,11 @@ module _ (image : List ℕ) (p-offset p-filesz : ℕ) (out : List ℕ) where
 
 -- ---- a bzImage load
 
-module _ (image : List ℕ) (offset highmem : Given) (guest out header : List ℕ) where
+module _ (image : List ℕ) (offset highmem : Given) (map : Map) (guest out header : List ℕ) where
   unsized : {r : ℕ} → bzImageSized out header ≡ false → r ≡ numberOf NoRoom
-      → BzImageLoads image offset highmem guest out header r guest out header
+      → BzImageLoads image offset highmem map guest out header r guest out header
   unsized f e =
-      let plan = bzimage.planOf image (memoryOf guest) offset highmem in
+      let plan = bzimage.planOf image (memoryOf guest map) offset highmem in
       record {
         answer = passes (bzImageNumber (plan .answer .answer)) f e;
         memory = passes (pour (plan .stream) guest) f refl;
@@ -90,25 +92,25 @@ module _ (image : List ℕ) (offset highmem : Given) (guest out header : List �
         setup = passes (sets header 0 (headerBytes (plan .answer .answer) (plan .answer .«setup_header»))) f refl;
       }
 
-  pub bzimage-unsized-out : {r : ℕ} → (length out ≡ 2 → ⊥) → r ≡ numberOf NoRoom → BzImageLoads image offset highmem guest out header r guest out header
+  pub bzimage-unsized-out : {r : ℕ} → (length out ≡ 2 → ⊥) → r ≡ numberOf NoRoom → BzImageLoads image offset highmem map guest out header r guest out header
   unfolding bzImageSized
   bzimage-unsized-out other e = unsized (rw (ne-eqb (length out) 2 other)) e
 
   pub bzimage-unsized-header : {r : ℕ} → length out ≡ 2 → (length header ≡ headerSize → ⊥) → r ≡ numberOf NoRoom
-      → BzImageLoads image offset highmem guest out header r guest out header
+      → BzImageLoads image offset highmem map guest out header r guest out header
   unfolding bzImageSized
   bzimage-unsized-header same other e = unsized (rw (eq-eqb (length out) 2 same, ne-eqb (length header) headerSize other)) e
 
-  pub bzimage-sized : {o h : Given} {outcome : Outcome} {r : ℕ} {after left setup : List ℕ} → length out ≡ 2 → length header ≡ headerSize → o ≡ offset
-      → h ≡ highmem → bzimage.KernelLoads image o h guest outcome after → BzImageTells outcome out header r left setup
-      → BzImageLoads image offset highmem guest out header r after left setup
+  pub bzimage-sized : {o h : Given} {m : Map} {outcome : Outcome} {r : ℕ} {after left setup : List ℕ} → length out ≡ 2 → length header ≡ headerSize → m ≡ map
+      → o ≡ offset → h ≡ highmem → bzimage.KernelLoads image o h m guest outcome after → BzImageTells outcome out header r left setup
+      → BzImageLoads image offset highmem map guest out header r after left setup
   unfolding bzImageSized
-  bzimage-sized {o} {h} {outcome} same sameh eo eh loads tells =
+  bzimage-sized {o} {h} {m} {outcome} same sameh em eo eh loads tells =
       let t : bzImageSized out header ≡ true = rw (eq-eqb (length out) 2 same, eq-eqb (length header) headerSize sameh) in
-      let is : outcome ≡ bzimage.planOf image (memoryOf guest) offset highmem .answer = loads .answer ∙ rw (eo, eh) in
+      let is : outcome ≡ bzimage.planOf image (memoryOf guest map) offset highmem .answer = loads .answer ∙ rw (em, eo, eh) in
       record {
         answer = picks (numberOf NoRoom) t (tells .answer ∙ ap (λ (x : Outcome). bzImageNumber (x .answer)) is);
-        memory = picks guest t (loads .memory ∙ rw (eo, eh));
+        memory = picks guest t (loads .memory ∙ rw (em, eo, eh));
         told = picks out t (tells .told ∙ ap (λ (x : Outcome). sets out 0 (bzImageValues (x .answer))) is);
         setup = picks header t (tells .setup ∙ ap (λ (x : Outcome). sets header 0 (headerBytes (x .answer) (x .«setup_header»))) is);
       }

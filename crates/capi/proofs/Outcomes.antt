@@ -37,15 +37,15 @@ both e f = rw (e, f)
 over : {A B : Type 0} {u : A} {x y : B} → x ≡ y → _≡_ {A = A × B} (u, x) (u, y)
 over e = rw e
 
-pub elf-load-one : OneOutcome 3 elf-load-kinds.ps elf-load-kinds.r elf-load-reads.Post
-elf-load-one κs a z z' ws ws' p q = (meet (p .answer) (q .answer), both (meet (p .memory) (q .memory)) (over (over (over (over (first (meet (p .told) (q .told))))))))
+pub elf-load-one : OneOutcome 4 elf-load-kinds.ps elf-load-kinds.r elf-load-reads.Post
+elf-load-one κs a z z' ws ws' p q = (meet (p .answer) (q .answer), both (meet (p .memory) (q .memory)) (over (over (over (over (over (first (meet (p .told) (q .told)))))))))
 
 pub elf-note-one : OneOutcome 2 elf-note-kinds.ps elf-note-kinds.r elf-note-reads.Post
 elf-note-one κs a z z' ws ws' p q = (meet (p .answer) (q .answer), over (over (over (first (meet (p .told) (q .told))))))
 
-pub bzimage-load-one : OneOutcome 4 bzimage-load-kinds.ps bzimage-load-kinds.r bzimage-load-reads.Post
+pub bzimage-load-one : OneOutcome 5 bzimage-load-kinds.ps bzimage-load-kinds.r bzimage-load-reads.Post
 bzimage-load-one κs a z z' ws ws' p q =
-    (meet (p .answer) (q .answer), both (meet (p .memory) (q .memory)) (over (over (over (over (both (meet (p .told) (q .told)) (first (meet (p .setup) (q .setup)))))))))
+    (meet (p .answer) (q .answer), both (meet (p .memory) (q .memory)) (over (over (over (over (over (both (meet (p .told) (q .told)) (first (meet (p .setup) (q .setup))))))))))
 
 pub line-new-one : OneOutcome 1 line-new-kinds.ps line-new-kinds.r line-new-reads.Post
 line-new-one κs a z z' ws ws' p q = (meet (p .answer) (q .answer), first (meet (p .line) (q .line)))
@@ -74,5 +74,5 @@ line-as-cstring-one κs a z z' ws ws' p q = (meet (p .answer) (q .answer), over 
 pub line-equal-one : OneOutcome 3 line-equal-kinds.ps line-equal-kinds.r line-equal-reads.Post
 line-equal-one κs a z z' ws ws' p q = (meet (p .answer) (q .answer), over (over (first (meet (p .told) (q .told)))))
 
-pub line-load-one : OneOutcome 2 line-load-kinds.ps line-load-kinds.r line-load-reads.Post
+pub line-load-one : OneOutcome 3 line-load-kinds.ps line-load-kinds.r line-load-reads.Post
 line-load-one κs a z z' ws ws' p q = (meet (p .answer) (q .answer), first (meet (p .memory) (q .memory)))

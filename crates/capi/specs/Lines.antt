@@ -24,6 +24,7 @@ use Rattle.cmdline.specs.Growing.{Extends}
 use Rattle.cmdline.specs.Insertion.{Plan, answerOf, callNumber, settled, withBoot, withInit}
 use Rattle.cmdline.specs.Making.{sizeTests}
 use Rattle.cmdline.specs.Writing.{writeTests, writtenOf, writtenNumber, writtenCount, writtenBytes, sameLine}
+use Rattle.guest.specs.declared.Map.{Map}
 use Rattle.guest.specs.declared.Memory.{Memory}
 use Rattle.guest.specs.Loading as loading
 use Rattle.guest.specs.Room.{memoryOf}
@@ -201,6 +202,6 @@ abbrev pub loadPlan : List ℕ → Memory → ℕ → loading.Plan loader.Answer
 loadPlan bytes m address =
     loading.behindTests loader-answer.Refused (lineTests bytes ++ lines.tests (textIn bytes) m address) (lines.linePlan (textIn bytes) address)
 
-pub record LineLoadsFrom (bytes : List ℕ) (address : ℕ) (guest : List ℕ) (r : ℕ) (after : List ℕ) : Type 0 where
-  pub answer : r ≡ lines.lineNumber (loadPlan bytes (memoryOf guest) address .answer)
-  pub memory : after ≡ pour (loadPlan bytes (memoryOf guest) address .stream) guest
+pub record LineLoadsFrom (bytes : List ℕ) (address : ℕ) (map : Map) (guest : List ℕ) (r : ℕ) (after : List ℕ) : Type 0 where
+  pub answer : r ≡ lines.lineNumber (loadPlan bytes (memoryOf guest map) address .answer)
+  pub memory : after ≡ pour (loadPlan bytes (memoryOf guest map) address .stream) guest

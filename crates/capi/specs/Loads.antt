@@ -10,6 +10,7 @@ use Rattle.answers.specs.Pick.{pick}
 use Rattle.answers.specs.Catalogue.{numberOf}
 use Rattle.answers.specs.declared.Refusal.the-variants.{NoRoom}
 use Rattle.guest.specs.declared.Given.{Given}
+use Rattle.guest.specs.declared.Map.{Map}
 use Rattle.guest.specs.declared.Given.the-variants.{Nothing, At}
 use Rattle.guest.specs.Room.{memoryOf}
 use Rattle.guest.specs.Stream.{pour}
@@ -66,10 +67,10 @@ abbrev pub leftWhere : Bool → List ℕ → List ℕ → List ℕ
 leftWhere sized left was = pick sized left was
 
 -- an ELF load
-pub record ElfLoads (image : List ℕ) (offset highmem : Given) (guest out : List ℕ) (r : ℕ) (guest-left out-left : List ℕ) : Type 0 where
-  pub answer : r ≡ numberWhere (eqb (length out) 6) (elfNumber (elf.planOf image (memoryOf guest) offset highmem .answer))
-  pub memory : guest-left ≡ leftWhere (eqb (length out) 6) (pour (elf.planOf image (memoryOf guest) offset highmem .stream) guest) guest
-  pub told : out-left ≡ leftWhere (eqb (length out) 6) (sets out 0 (elfValues (elf.planOf image (memoryOf guest) offset highmem .answer))) out
+pub record ElfLoads (image : List ℕ) (offset highmem : Given) (map : Map) (guest out : List ℕ) (r : ℕ) (guest-left out-left : List ℕ) : Type 0 where
+  pub answer : r ≡ numberWhere (eqb (length out) 6) (elfNumber (elf.planOf image (memoryOf guest map) offset highmem .answer))
+  pub memory : guest-left ≡ leftWhere (eqb (length out) 6) (pour (elf.planOf image (memoryOf guest map) offset highmem .stream) guest) guest
+  pub told : out-left ≡ leftWhere (eqb (length out) 6) (sets out 0 (elfValues (elf.planOf image (memoryOf guest map) offset highmem .answer))) out
 
 -- a note walk
 pub record ElfNotes (image : List ℕ) (p-offset p-filesz : ℕ) (out : List ℕ) (r : ℕ) (left : List ℕ) : Type 0 where
@@ -86,14 +87,14 @@ unfoldable pub bzImageSized : List ℕ → List ℕ → Bool
 bzImageSized out header = eqb (length out) 2 && eqb (length header) headerSize
 
 -- a bzImage load
-pub record BzImageLoads (image : List ℕ) (offset highmem : Given) (guest out header : List ℕ) (r : ℕ) (guest-left out-left header-left : List ℕ) : Type 0 where
-  pub answer : r ≡ numberWhere (bzImageSized out header) (bzImageNumber (bzimage.planOf image (memoryOf guest) offset highmem .answer .answer))
-  pub memory : guest-left ≡ leftWhere (bzImageSized out header) (pour (bzimage.planOf image (memoryOf guest) offset highmem .stream) guest) guest
-  pub told : out-left ≡ leftWhere (bzImageSized out header) (sets out 0 (bzImageValues (bzimage.planOf image (memoryOf guest) offset highmem .answer .answer))) out
+pub record BzImageLoads (image : List ℕ) (offset highmem : Given) (map : Map) (guest out header : List ℕ) (r : ℕ) (guest-left out-left header-left : List ℕ) : Type 0 where
+  pub answer : r ≡ numberWhere (bzImageSized out header) (bzImageNumber (bzimage.planOf image (memoryOf guest map) offset highmem .answer .answer))
+  pub memory : guest-left ≡ leftWhere (bzImageSized out header) (pour (bzimage.planOf image (memoryOf guest map) offset highmem .stream) guest) guest
+  pub told : out-left ≡ leftWhere (bzImageSized out header) (sets out 0 (bzImageValues (bzimage.planOf image (memoryOf guest map) offset highmem .answer .answer))) out
   pub setup :
       header-left
       ≡ leftWhere (bzImageSized out header)
       (sets header 0
-      (headerBytes (bzimage.planOf image (memoryOf guest) offset highmem .answer .answer)
-      (bzimage.planOf image (memoryOf guest) offset highmem .answer .«setup_header»)))
+      (headerBytes (bzimage.planOf image (memoryOf guest map) offset highmem .answer .answer)
+      (bzimage.planOf image (memoryOf guest map) offset highmem .answer .«setup_header»)))
       header

@@ -3,6 +3,7 @@
 ghost use Rattle.cmdline.specs.Insertion.{insert, insertMultiple, insertStr, insertInitArgs};
 ghost use Rattle.cmdline.specs.Device.{addDevice};
 ghost use Rattle.cmdline.specs.Making.{new, tryFrom};
+ghost use Rattle.guest.specs.Maps.{mapOf};
 ghost use Rattle.capi.specs.Lines.{textIn, the-boot, the-init, idBy, LineMakes, LineCalls, LineWrites, LinesCompare, LineLoadsFrom};
 ghost use Rattle.capi.specs.Loads.{offsetOf, highmemOf, ElfLoads, ElfNotes, BzImageLoads};
 use answers::Gate;
@@ -12,6 +13,7 @@ use cmdline::sizes;
 use cmdline::writing;
 use guest::GuestAddress;
 use guest::ImagePlace;
+use guest::maps;
 use slugs::splitting;
 use slugs::trimming;
 
@@ -22,26 +24,34 @@ mod options;
 
 // ---- loads
 
-// Loads an ELF image into guest memory. Bit 0 of the flags: an offset is given; bit 1: the start of high memory is. `out` has 6 places:
+// Loads an ELF image into guest memory, whose map is start, size, start, size .. Bit 0 of the flags: an offset is given; bit 1: the start of high
+// memory is. `out` has 6 places:
 // the load address, the kernel's end, PVH (0 ignored, 1 not present, 2 present), the PVH address, and the place and the size of the
 // descriptor of the note that gives it; the last three are 0 where there is none.
 #[no_mangle]
 pub extern "C" fn rekusoyen_elf_load(
     guest: &mut [u8],
+    map: &[u64],
     image: &[u8],
     flags: u32,
     offset: u64,
     highmem: u64,
     out: &mut [u64],
 ) -> u32
-    ensures { λ r. ⌜ ElfLoads (now (image .entry)) (offsetOf flags offset) (highmemOf flags highmem) (now (guest .entry)) (now (out .entry)) r (now (guest .exit)) (now (out .exit)) ⌝ }
+    ensures { λ r. ⌜ ElfLoads (now (image .entry)) (offsetOf flags offset) (highmemOf flags highmem) (mapOf (now (map .entry))) (now (guest .entry)) (now (out .entry)) r (now (guest .exit)) (now (out .exit)) ⌝ }
 {
     if out.len() != 6 {
         return answers::number(Refusal::NoRoom);
     }
     let kernel_offset = options::offset(flags, offset);
     let highmem_start = options::highmem(flags, highmem);
-    let answer = elf::load(guest, image, kernel_offset, highmem_start);
+    let answer = elf::load(
+        guest,
+        maps::from_numbers(map),
+        image,
+        kernel_offset,
+        highmem_start,
+    );
     elf_told::load(out, answer)
 }
 
@@ -68,6 +78,7 @@ pub extern "C" fn rekusoyen_elf_note(
 #[no_mangle]
 pub extern "C" fn rekusoyen_bzimage_load(
     guest: &mut [u8],
+    map: &[u64],
     image: &[u8],
     flags: u32,
     offset: u64,
@@ -75,7 +86,7 @@ pub extern "C" fn rekusoyen_bzimage_load(
     out: &mut [u64],
     header: &mut [u8],
 ) -> u32
-    ensures { λ r. ⌜ BzImageLoads (now (image .entry)) (offsetOf flags offset) (highmemOf flags highmem) (now (guest .entry)) (now (out .entry)) (now (header .entry)) r (now (guest .exit)) (now (out .exit)) (now (header .exit)) ⌝ }
+    ensures { λ r. ⌜ BzImageLoads (now (image .entry)) (offsetOf flags offset) (highmemOf flags highmem) (mapOf (now (map .entry))) (now (guest .entry)) (now (out .entry)) (now (header .entry)) r (now (guest .exit)) (now (out .exit)) (now (header .exit)) ⌝ }
 {
     if out.len() != 2 {
         return answers::number(Refusal::NoRoom);
@@ -85,7 +96,13 @@ pub extern "C" fn rekusoyen_bzimage_load(
     }
     let kernel_offset = options::offset(flags, offset);
     let highmem_start = options::highmem(flags, highmem);
-    let outcome = bzimage::load(guest, image, kernel_offset, highmem_start);
+    let outcome = bzimage::load(
+        guest,
+        maps::from_numbers(map),
+        image,
+        kernel_offset,
+        highmem_start,
+    );
     bzimage_told::load(out, header, outcome)
 }
 
@@ -289,8 +306,13 @@ pub extern "C" fn rekusoyen_line_equal(a: &[u8], b: &[u8], out: &mut [u64]) -> u
 
 // Writes the line and its zero into guest memory, at an address.
 #[no_mangle]
-pub extern "C" fn rekusoyen_line_load(guest: &mut [u8], address: u64, line: &[u8]) -> u32
-    ensures { λ r. ⌜ LineLoadsFrom (now (line .entry)) address (now (guest .entry)) r (now (guest .exit)) ⌝ }
+pub extern "C" fn rekusoyen_line_load(
+    guest: &mut [u8],
+    map: &[u64],
+    address: u64,
+    line: &[u8],
+) -> u32
+    ensures { λ r. ⌜ LineLoadsFrom (now (line .entry)) address (mapOf (now (map .entry))) (now (guest .entry)) r (now (guest .exit)) ⌝ }
 {
     let header = lines::read_header(Gate::Open, line);
     let gate = header.gate;
@@ -299,7 +321,13 @@ pub extern "C" fn rekusoyen_line_load(guest: &mut [u8], address: u64, line: &[u8
         Gate::Open => {
             let boot = lines::text_at(line, lines::BOOT, header.boots);
             let init = lines::text_at(line, lines::INIT, header.inits);
-            let answer = loader::load_texts(guest, GuestAddress(address), boot, init);
+            let answer = loader::load_texts(
+                guest,
+                maps::from_numbers(map),
+                GuestAddress(address),
+                boot,
+                init,
+            );
             lines::load_number(answer)
         }
     }

@@ -6,7 +6,9 @@ use Rattle.answers.specs.Catalogue.{numberOf}
 use Rattle.answers.specs.declared.Refusal.{Refusal}
 use Rattle.answers.specs.declared.Refusal.the-variants as refusal
 use Rattle.fields.specs.Numbers.{leBytes}
-use Rattle.guest.specs.Room.{memoryOf}
+use Rattle.guest.specs.Loading.{Plan}
+use Rattle.guest.specs.Maps.{mapOf}
+use Rattle.guest.specs.Room.{memoryOf, wholeOf}
 use Rattle.guest.specs.Stream.{pour}
 use Rattle.guest.specs.declared.Given.{Given}
 use Rattle.guest.specs.declared.Given.the-variants.{Nothing, At}
@@ -14,6 +16,7 @@ use Rattle.elf.specs.Header.{magic}
 use Rattle.elf.specs.Notes.{xen, publicNote}
 use Rattle.elf.specs.Pouring.{planOf}
 use Rattle.elf.specs.Load.{pvhCode, elfNumber, elfValues, noteNumber, noteValues}
+use Rattle.elf.specs.declared.Answer.{Answer}
 use Rattle.elf.specs.declared.PvhBootCapability.the-variants.{PvhEntryIgnored}
 use Rattle.slugs.specs.Bytes.{space, quote, dash, equals}
 use Rattle.slugs.specs.Splitting.{separator}
@@ -45,9 +48,10 @@ note = leBytes 4 4 ++ leBytes 4 4 ++ leBytes 4 18 ++ xen ++ leBytes 4 0x100000
 
 -- ---- what is asked, and what is told
 
--- a load of e1 into so many zero bytes; a walk over the note with this file size; a line made and called at a capacity
+-- a load of e1 into so many zero bytes, the whole of them or with a map; a walk over the note with this file size; a line made and called at a capacity
 pub data Ask : Type 0 where
   loads : ℕ → Given → Given → Ask
+  loads-over : ℕ → List ℕ → Ask
   walks : ℕ → Ask
   lines : Making → List Call → ℕ → Ask
 
@@ -69,10 +73,13 @@ lastNumber [] = 0
 lastNumber (s ∷ []) = saidNumber s
 lastNumber (s ∷ (u ∷ ss)) = lastNumber (u ∷ ss)
 
+-- what a load of e1 by a plan says and leaves
+abbrev planned : Plan Answer → ℕ → Told
+planned plan size = record { number = elfNumber (plan .answer); values = elfValues (plan .answer); left = pour (plan .stream) (zeros size) ∷ [] }
+
 unfoldable pub told : Ask → Told
-told (loads size offset highmem) =
-    let plan = planOf e1 (memoryOf (zeros size)) offset highmem in
-    record { number = elfNumber (plan .answer); values = elfValues (plan .answer); left = pour (plan .stream) (zeros size) ∷ [] }
+told (loads size offset highmem) = planned (planOf e1 (wholeOf size) offset highmem) size
+told (loads-over size numbers) = planned (planOf e1 (memoryOf (zeros size) (mapOf numbers)) Nothing Nothing) size
 told (walks size) =
     let said = publicNote note (record { 0 = 0 }) size in
     record { number = noteNumber (said .answer); values = noteValues (said .answer) (said .headers); left = [] }
@@ -128,6 +135,10 @@ cases =
     ∷ record { ask = loads 18 Nothing Nothing; want = refused refusal.ReadKernelImage (zeros 18 ∷ []) }
     ∷ record { ask = loads 32 Nothing (at 16); want = accepted (loaded 16 24) ((zeros 16 ++ body ++ zeros 13) ∷ []) }
     ∷ record { ask = loads 32 Nothing (at 17); want = refused refusal.InvalidEntryAddress (zeros 32 ∷ []) }
+    -- over a map: a range that just holds the file bytes, two ranges with a hole inside them, and two that touch
+    ∷ record { ask = loads-over 32 (0 ∷ 8 ∷ 16 ∷ 3 ∷ []); want = accepted (loaded 16 24) ((zeros 16 ++ body ++ zeros 13) ∷ []) }
+    ∷ record { ask = loads-over 32 (0 ∷ 17 ∷ 18 ∷ 14 ∷ []); want = refused refusal.ReadKernelImage (zeros 32 ∷ []) }
+    ∷ record { ask = loads-over 32 (0 ∷ 16 ∷ 16 ∷ 16 ∷ []); want = refused refusal.BadMap (zeros 32 ∷ []) }
     -- the note, of which the walk reads the header where only its first byte is counted
     ∷ record { ask = walks 20; want = accepted present [] }
     ∷ record { ask = walks 1; want = accepted present [] }

@@ -12,6 +12,7 @@ use Rattle.guest.specs.Addresses.{amountOf}
 use Rattle.guest.specs.Room.{memoryOf}
 use Rattle.guest.specs.Stream.{pour, lastAt}
 use Rattle.guest.specs.declared.Given.{Given}
+use Rattle.guest.specs.declared.Map.{Map}
 use Rattle.guest.specs.declared.Memory.{Memory}
 use Rattle.guest.proofs.StreamLaws.{last-decides, last-append, last-inside, last-outside}
 use Rattle.elf.specs.Header.{e-phnum}
@@ -119,10 +120,10 @@ module _ (image : List ℕ) (m : Memory) (offset highmem : Given) (ok : Accepted
       (stream-rule image m (amountOf offset) a (e-phnum image) 0 (getD guest a 0) (λ j le lt'. accepted-fit image m offset highmem ok j (omega arith)))
 
 -- the theorem, of whatever the contract of `load` permits
-module _ (image : List ℕ) (offset highmem : Given) (before after : List ℕ) {r : Answer} (says : LoadSays image offset highmem before r after) where
+module _ (image : List ℕ) (offset highmem : Given) (map : Map) (before after : List ℕ) {r : Answer} (says : LoadSays image offset highmem map before r after) where
   pub byte-rule : {result : KernelLoaderResult} → r ≡ Loaded result → (a : ℕ) → a < length before
       → Ruled image (amountOf offset) a 0 (e-phnum image) (getD before a 0) (getD after a 0)
   byte-rule e a lt =
       let loaded = sym (says .answer) ∙ e in
-      rw (says .memory, plan-stream image (memoryOf before) offset highmem, loaded)
-      (poured-rule image (memoryOf before) offset highmem (subst⁻¹ Accepted loaded is-accepted) before a lt)
+      rw (says .memory, plan-stream image (memoryOf before map) offset highmem, loaded)
+      (poured-rule image (memoryOf before map) offset highmem (subst⁻¹ Accepted loaded is-accepted) before a lt)

@@ -15,6 +15,7 @@ use Rattle.answers.proofs.PickLaws.{pick-with}
 use Rattle.guest.specs.Addresses.{amountOf, isGiven}
 use Rattle.guest.specs.Room.{memoryOf}
 use Rattle.guest.specs.declared.Given.{Given}
+use Rattle.guest.specs.declared.Map.{Map}
 use Rattle.guest.specs.declared.Memory.{Memory}
 use Rattle.elf.specs.Header.{e-phnum}
 use Rattle.elf.specs.ProgramHeaders.{headerOf}
@@ -165,22 +166,22 @@ module _ (image : List ℕ) (m : Memory) (offset : Given) {r : KernelLoaderResul
 
 -- ---- of the load's contract
 
-module _ (image : List ℕ) (offset highmem : Given) (before after : List ℕ) {r : Answer} {result : KernelLoaderResult} (says : LoadSays image offset highmem before r after)
+module _ (image : List ℕ) (offset highmem : Given) (map : Map) (before after : List ℕ) {r : Answer} {result : KernelLoaderResult} (says : LoadSays image offset highmem map before r after)
     (loaded : r ≡ Loaded result) where
-  surveyed : surveyOf image (memoryOf before) offset ≡ Loaded result
+  surveyed : surveyOf image (memoryOf before map) offset ≡ Loaded result
   surveyed =
       let is = sym (says .answer) ∙ loaded in
-      let ok = accept-rules image (memoryOf before) offset highmem (subst Accepted (sym is) is-accepted) in
-      sym (by-headers image (memoryOf before) offset highmem (ok .before)) ∙ is
+      let ok = accept-rules image (memoryOf before map) offset highmem (subst Accepted (sym is) is-accepted) in
+      sym (by-headers image (memoryOf before map) offset highmem (ok .before)) ∙ is
 
   pub first-note : {note : PvhNote} → FirstGives image offset (e-phnum image) note → result .«pvh_boot_cap» ≡ pvh.PvhEntryPresent note
   first-note {note} f =
       let below = f .below in
-      reached image (memoryOf before) offset (e-phnum image) 0 (f .k) (blank (loadAddress image offset)) (omega arith) (omega arith)
-      (gives-step image (memoryOf before) offset (headerOf image (f .k)) note (f .gives))
-      (λ j _ lt other is. f .before j lt other (step-gives image (memoryOf before) offset (headerOf image j) other is)) ignored surveyed
+      reached image (memoryOf before map) offset (e-phnum image) 0 (f .k) (blank (loadAddress image offset)) (omega arith) (omega arith)
+      (gives-step image (memoryOf before map) offset (headerOf image (f .k)) note (f .gives))
+      (λ j _ lt other is. f .before j lt other (step-gives image (memoryOf before map) offset (headerOf image j) other is)) ignored surveyed
 
   pub no-note : ((j : ℕ) → j < e-phnum image → GivesNone image offset (headerOf image j)) → Absent (result .«pvh_boot_cap»)
   no-note none =
-      none-given image (memoryOf before) offset (e-phnum image) 0 (blank (loadAddress image offset))
-      (λ j _ lt other is. none j (omega arith) other (step-gives image (memoryOf before) offset (headerOf image j) other is)) ignored surveyed
+      none-given image (memoryOf before map) offset (e-phnum image) 0 (blank (loadAddress image offset))
+      (λ j _ lt other is. none j (omega arith) other (step-gives image (memoryOf before map) offset (headerOf image j) other is)) ignored surveyed

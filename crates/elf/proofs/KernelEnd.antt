@@ -13,6 +13,7 @@ use Rattle.answers.proofs.PickLaws.{pick-with}
 use Rattle.guest.specs.Addresses.{amountOf}
 use Rattle.guest.specs.Room.{memoryOf}
 use Rattle.guest.specs.declared.Given.{Given}
+use Rattle.guest.specs.declared.Map.{Map}
 use Rattle.guest.specs.declared.GuestAddress.{GuestAddress}
 use Rattle.guest.specs.declared.Memory.{Memory}
 use Rattle.elf.specs.Header.{e-phnum}
@@ -111,11 +112,11 @@ module _ (image : List ℕ) (m : Memory) (offset : Given) {r : KernelLoaderResul
 
 -- ---- of the load's contract
 
-pub end-covers : (image : List ℕ) (offset highmem : Given) (before after : List ℕ) {r : Answer} {result : KernelLoaderResult}
-    → LoadSays image offset highmem before r after → r ≡ Loaded result → (k : ℕ) → k < e-phnum image → headerOf image k .«p_type» ≡ 1
+pub end-covers : (image : List ℕ) (offset highmem : Given) (map : Map) (before after : List ℕ) {r : Answer} {result : KernelLoaderResult}
+    → LoadSays image offset highmem map before r after → r ≡ Loaded result → (k : ℕ) → k < e-phnum image → headerOf image k .«p_type» ≡ 1
     → 0 < headerOf image k .«p_memsz» → amountOf offset + headerOf image k .«p_paddr» .0 + headerOf image k .«p_memsz» ≤ result .«kernel_end» .0
-end-covers image offset highmem before after says loaded k lt is-1 some =
-    let m = memoryOf before in
+end-covers image offset highmem map before after says loaded k lt is-1 some =
+    let m = memoryOf before map in
     let is = sym (says .answer) ∙ loaded in
     let ok = accept-rules image m offset highmem (subst Accepted (sym is) is-accepted) in
     end-reached image m offset (e-phnum image) 0 k (blank (loadAddress image offset)) (omega arith) (omega arith)

@@ -12,6 +12,8 @@ pub mod NoteVerdicts
 pub mod NotesLengthened
 pub mod Lengthened
 pub mod MoreRoom
+pub mod WholeSlice
+pub mod HolesUntouched
 pub mod KernelEnd
 pub mod FileSizeStays
 pub mod FirstNote

@@ -4,6 +4,7 @@ pub mod Notes
 pub mod Survey
 pub mod Pouring
 pub mod Load
+pub mod WholeSlice
 pub mod Verdict
 pub mod Rules
 pub mod FirstNote

@@ -5,6 +5,7 @@ use Rattle.answers.specs.Catalogue.{numberOf}
 use Rattle.guest.specs.Room.{memoryOf}
 use Rattle.guest.specs.Loading.{Loads}
 use Rattle.guest.specs.declared.Given.{Given}
+use Rattle.guest.specs.declared.Map.{Map}
 use Rattle.elf.specs.Pouring.{planOf}
 use Rattle.elf.specs.declared.PvhBootCapability.{PvhBootCapability}
 use Rattle.elf.specs.declared.PvhBootCapability.the-variants.{PvhEntryPresent, PvhEntryNotPresent, PvhEntryIgnored}
@@ -13,9 +14,9 @@ use Rattle.elf.specs.declared.NoteAnswer.the-variants as note
 use Rattle.elf.specs.declared.Answer.{Answer}
 use Rattle.elf.specs.declared.Answer.the-variants.{Loaded, Refused}
 
--- a load of an image into guest memory that held `before`: it answers r and leaves `after`
-abbrev pub LoadSays : List ℕ → Given → Given → List ℕ → Answer → List ℕ → Type 0
-LoadSays image offset highmem before r after = Loads (planOf image (memoryOf before) offset highmem) before r after
+-- a load of an image into guest memory with a map that held `before`: it answers r and leaves `after`
+abbrev pub LoadSays : List ℕ → Given → Given → Map → List ℕ → Answer → List ℕ → Type 0
+LoadSays image offset highmem map before r after = Loads (planOf image (memoryOf before map) offset highmem) before r after
 
 -- PVH as a number: 0 where it is ignored, 1 where there is no entry, 2 where there is one
 unfoldable pub pvhCode : PvhBootCapability → ℕ

@@ -18,6 +18,7 @@ use fields::numbers;
 use guest::Given;
 use guest::GuestAddress;
 use guest::ImagePlace;
+use guest::Map;
 use guest::Memory;
 use guest::addresses;
 use guest::sizes;
@@ -68,12 +69,19 @@ pub struct ElfNote {
     pub headers: u64,
 }
 
-// Loads an ELF image into guest memory. A segment goes to its physical address, moved by the offset where one is given.
-pub fn load(guest: &mut [u8], image: &[u8], kernel_offset: Given, highmem_start: Given) -> Answer
-    ensures { λ r. ⌜ LoadSays (now (image .entry)) «kernel_offset» «highmem_start» (now (guest .entry)) r (now (guest .exit)) ⌝ }
+// Loads an ELF image into guest memory, which the map's ranges are. A segment goes to its physical address, moved by the offset where one is given.
+pub fn load(
+    guest: &mut [u8],
+    map: Map,
+    image: &[u8],
+    kernel_offset: Given,
+    highmem_start: Given,
+) -> Answer
+    ensures { λ r. ⌜ LoadSays (now (image .entry)) «kernel_offset» «highmem_start» map (now (guest .entry)) r (now (guest .exit)) ⌝ }
 {
     let memory = Memory {
         size: guest.len() as u64,
+        map: map,
     };
     let answer = survey::answer_load(image, memory, kernel_offset, highmem_start);
     match answer {

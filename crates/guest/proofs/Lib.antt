@@ -1,3 +1,5 @@
+pub mod MapsLaws
+pub mod MapListLaws
 pub mod RoomLaws
 pub mod StreamLaws
 pub mod PartLaws

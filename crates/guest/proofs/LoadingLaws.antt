@@ -1,9 +1,10 @@
 -- Laws of every load. A loader gives its tests, its stream and what may lift; what follows is said here once.
 use Prim.Native.Nat.{ℕ, _≤_}
 use mathlib.Core.Path.{_≡_, sym, _∙_, refl, ap, subst⁻¹}
+use mathlib.Core.Bool.{false}
 use mathlib.Core.List.{List, [], _++_}
 use native.Mathlib.Omega.{arith}
-use lib.ListN.{length}
+use lib.ListN.{length, getD}
 use Rattle.answers.specs.Tests.{Test, askedAll, AllHold, FirstFails}
 use Rattle.answers.specs.Keeping.{Keeps, same, lifted, ShutBy, shut-by, Widens}
 use Rattle.answers.specs.declared.Refusal.{Refusal}
@@ -11,10 +12,14 @@ use Rattle.answers.specs.declared.Gate.{Gate}
 use Rattle.answers.specs.declared.Gate.the-variants.{Open, Shut}
 use Rattle.answers.proofs.TestsLaws.{open-all, all-open, shut-first, first-shut}
 use Rattle.answers.proofs.KeepingLaws.{row-keeps, kept}
+use Rattle.guest.specs.Maps.{rangesOf, inRanges}
+use Rattle.guest.specs.Room.{memoryOf}
 use Rattle.guest.specs.Stream.{pour, Inside, none}
 use Rattle.guest.specs.Loading.{Plan, Loads, refusedPlan, behindGate, behindTests, RefusedFor}
+use Rattle.guest.specs.declared.Map.{Map}
 use Rattle.guest.specs.declared.Memory.{Memory}
-use Rattle.guest.proofs.StreamLaws.{length-pour, pour-longer}
+use Rattle.guest.proofs.RoomLaws.{no-range}
+use Rattle.guest.proofs.StreamLaws.{length-pour, pour-longer, pour-hole}
 
 -- ---- what a load leaves
 
@@ -26,6 +31,12 @@ module _ {A : Type 0} (plan : Plan A) (before after : List ℕ) {r : A} (loads :
   pub nothing-written : plan .stream ≡ [] → after ≡ before
   unfolding pour
   nothing-written e = loads .memory ∙ ap (λ ps. pour ps before) e
+
+  -- no byte in a hole changes
+  pub hole-untouched : (map : Map) → Inside (memoryOf before map) (plan .stream) → (a : ℕ) → inRanges (rangesOf map) a 1 ≡ false
+      → getD after a 0 ≡ getD before a 0
+  hole-untouched map inside a hole =
+      ap (λ l. getD l a 0) (loads .memory) ∙ pour-hole (plan .stream) before (memoryOf before map) inside a (no-range (memoryOf before map) a 1 hole)
 
   -- the same plan over longer memory: the same answer and bytes, the added memory untouched
   same-plan : (m : Memory) → Inside m (plan .stream) → m .size ≤ length before → {plan' : Plan A} → plan' ≡ plan → (more : List ℕ) {r' : A} {after' : List ℕ}

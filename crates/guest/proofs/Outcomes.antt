@@ -10,6 +10,12 @@ use Rattle.guest.proofs.addresses.given_or.Kinds as given-or-kinds
 use Rattle.guest.proofs.addresses.given_or.Reads as given-or-reads
 use Rattle.guest.proofs.sizes.is_allowed.Kinds as is-allowed-kinds
 use Rattle.guest.proofs.sizes.is_allowed.Reads as is-allowed-reads
+use Rattle.guest.proofs.maps.is_good.Kinds as is-good-kinds
+use Rattle.guest.proofs.maps.is_good.Reads as is-good-reads
+use Rattle.guest.proofs.maps.whole.Kinds as whole-kinds
+use Rattle.guest.proofs.maps.whole.Reads as whole-reads
+use Rattle.guest.proofs.maps.from_numbers.Kinds as from-numbers-kinds
+use Rattle.guest.proofs.maps.from_numbers.Reads as from-numbers-reads
 use Rattle.guest.proofs.room.has_room.Kinds as has-room-kinds
 use Rattle.guest.proofs.room.has_room.Reads as has-room-reads
 use Rattle.guest.proofs.lent.ask_memory.Kinds as ask-memory-kinds
@@ -30,6 +36,15 @@ given-or-one κs a z z' ws ws' p q = (meet p q, refl)
 
 pub is-allowed-one : OneOutcome 0 is-allowed-kinds.ps is-allowed-kinds.r is-allowed-reads.Post
 is-allowed-one κs a z z' ws ws' p q = (meet p q, refl)
+
+pub is-good-one : OneOutcome 0 is-good-kinds.ps is-good-kinds.r is-good-reads.Post
+is-good-one κs a z z' ws ws' p q = (meet p q, refl)
+
+pub whole-one : OneOutcome 0 whole-kinds.ps whole-kinds.r whole-reads.Post
+whole-one κs a z z' ws ws' p q = (meet p q, refl)
+
+pub from-numbers-one : OneOutcome 1 from-numbers-kinds.ps from-numbers-kinds.r from-numbers-reads.Post
+from-numbers-one κs a z z' ws ws' p q = (meet p q, refl)
 
 pub has-room-one : OneOutcome 0 has-room-kinds.ps has-room-kinds.r has-room-reads.Post
 has-room-one κs a z z' ws ws' p q = (meet p q, refl)

@@ -1,7 +1,7 @@
 -- Laws of the stream and of its pouring.
 use Prim.Native.Nat.{ℕ, suc, _+_, _-_, _≤_, _<_}
 use mathlib.Core.Path.{_≡_, sym, _∙_, refl, ap}
-use mathlib.Core.Bool.{true}
+use mathlib.Core.Bool.{true, false, true≢false}
 use mathlib.Core.List.{List, [], _∷_, _++_}
 use native.Mathlib.Omega.{arith}
 use native.Mathlib.Decide.{decLe, ℕ-discrete}
@@ -62,6 +62,14 @@ pour-longer (p ∷ ps) guest more m (goes h rest) fits =
     let lies = room-size m (p .0) 1 h in
     rw (set-append-left guest more (p .0) (p .1) (omega arith))
     (pour-longer ps (set guest (p .0) (p .1)) more m rest (simp length-set fits))
+
+-- and no byte without room changes
+pub pour-hole : (ps : List Poke) (guest : List ℕ) (m : Memory) → Inside m ps → (a : ℕ) → room m a 1 ≡ false → getD (pour ps guest) a 0 ≡ getD guest a 0
+unfolding pour
+pour-hole [] guest m h a hole = refl
+pour-hole (p ∷ ps) guest m (goes h rest) a hole =
+    pour-hole ps (set guest (p .0) (p .1)) m rest a hole
+    ∙ getD-set-other guest (p .0) a (p .1) 0 (λ e. let w : true ≡ false = sym h ∙ ap (λ x. room m x 1) (sym e) ∙ hole in absurd (true≢false w))
 
 -- ---- byte by byte
 

@@ -1,5 +1,6 @@
 pub mod Addresses
 pub mod Sizes
+pub mod Maps
 pub mod Room
 pub mod Lent
 pub mod Stream

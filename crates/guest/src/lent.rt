@@ -4,15 +4,18 @@ ghost use Rattle.answers.specs.Tests.{askedAll};
 ghost use Rattle.answers.specs.declared.Gate.the-variants.{Open};
 ghost use Rattle.guest.specs.Lent.{memoryTests, lentTests};
 use crate::Memory;
+use crate::maps;
 use crate::sizes;
 use answers::Gate;
 use answers::Refusal;
 
-// Guest memory, where no test before it refused.
+// Guest memory, where no test before it refused: its size, then its map.
 pub fn ask_memory(gate: Gate, memory: Memory) -> Gate
     ensures { λ r. ⌜ r ≡ askedAll gate (memoryTests memory) ⌝ }
 {
-    answers::require(gate, sizes::is_allowed(memory.size), Refusal::SliceTooLong)
+    let gate = answers::require(gate, sizes::is_allowed(memory.size), Refusal::SliceTooLong);
+    let map = memory.map;
+    answers::require(gate, maps::is_good(memory.size, map), Refusal::BadMap)
 }
 
 // An image of this length, then guest memory.

@@ -1,7 +1,8 @@
-// Guest memory, as a lent slice: its addresses, its size, its room, and what is written into it.
+// Guest memory, as a lent slice with a map: its addresses, its size, its ranges, its room, and what is written into it.
 pub mod addresses;
 pub mod copying;
 pub mod lent;
+pub mod maps;
 pub mod room;
 pub mod sizes;
 
@@ -19,7 +20,15 @@ pub enum Given {
     At(GuestAddress),
 }
 
-// Guest memory, as what is written into it sees it: a lent slice of this many bytes.
+// A memory map: the first `count` of up to 16 ranges, each its start and its size.
+pub struct Map {
+    pub count: u64,
+    pub starts: [u64; 16],
+    pub sizes: [u64; 16],
+}
+
+// Guest memory, as what is written into it sees it: a lent slice of this many bytes, and the ranges of it that are memory.
 pub struct Memory {
     pub size: u64,
+    pub map: Map,
 }

@@ -3,11 +3,16 @@ ghost use mathlib.Core.Path.{_≡_};
 ghost use Rattle.guest.specs.Room.{room};
 use crate::GuestAddress;
 use crate::Memory;
+use crate::maps;
 use fields::ranges;
 
-// Do n bytes at an address lie in guest memory?
+// Do n bytes at an address lie in guest memory, in one of its ranges?
 pub fn has_room(memory: Memory, address: GuestAddress, n: u64) -> bool
     ensures { λ r. ⌜ r ≡ room memory (address .0) n ⌝ }
 {
-    ranges::within(memory.size, address.0, n)
+    if !ranges::within(memory.size, address.0, n) {
+        return false;
+    }
+    let map = memory.map;
+    maps::in_map(map, address.0, n)
 }

@@ -8,6 +8,7 @@ use Rattle.answers.specs.declared.Refusal.{Refusal}
 use Rattle.cmdline.specs.Text.{Text}
 use Rattle.guest.specs.Loading.{Plan}
 use Rattle.guest.specs.Room.{memoryOf}
+use Rattle.guest.specs.declared.Map.{Map}
 use Rattle.guest.specs.Stream.{pour, Stands}
 use Rattle.guest.proofs.StreamLaws.{poured-stands}
 use Rattle.guest.proofs.LoadingLaws.{nothing-written, all-planned, first-planned}
@@ -19,15 +20,15 @@ use Rattle.loader.proofs.Refusals.{where-loaded, where-refused}
 
 -- ---- of the loading's contract
 
-module _ (t : Text) (address : ℕ) (guest : List ℕ) {r : Answer} {after : List ℕ} (loads : LineLoads t address guest r after) where
+module _ (t : Text) (address : ℕ) (map : Map) (guest : List ℕ) {r : Answer} {after : List ℕ} (loads : LineLoads t address map guest r after) where
   pub loaded-written : r ≡ Loaded → Stands (lineBytes t) address guest after
   loaded-written e =
-      let hold = where-loaded t address guest loads e in
-      poured-stands (lineBytes t) address guest (memoryOf guest) (λ _. hold-room t (memoryOf guest) address hold) (omega arith)
-      (loads .memory ∙ ap (λ (p : Plan Answer). pour (p .stream) guest) (all-planned Refused (tests t (memoryOf guest) address) (linePlan t address) hold))
+      let hold = where-loaded t address map guest loads e in
+      poured-stands (lineBytes t) address guest (memoryOf guest map) (λ _. hold-room t (memoryOf guest map) address hold) (omega arith)
+      (loads .memory ∙ ap (λ (p : Plan Answer). pour (p .stream) guest) (all-planned Refused (tests t (memoryOf guest map) address) (linePlan t address) hold))
 
   pub refused-untouched : {refusal : Refusal} → r ≡ Refused refusal → after ≡ guest
   refused-untouched e =
-      nothing-written (planOf t (memoryOf guest) address) guest after loads
+      nothing-written (planOf t (memoryOf guest map) address) guest after loads
       (ap (λ (p : Plan Answer). p .stream)
-      (first-planned Refused (tests t (memoryOf guest) address) (linePlan t address) (where-refused t address guest loads e)))
+      (first-planned Refused (tests t (memoryOf guest map) address) (linePlan t address) (where-refused t address map guest loads e)))

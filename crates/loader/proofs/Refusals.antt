@@ -15,27 +15,28 @@ use Rattle.cmdline.specs.Text.{Text}
 use Rattle.cmdline.specs.Writing.{headed, wholeOf, textTests, textGate}
 use Rattle.guest.specs.Loading.{Plan}
 use Rattle.guest.specs.Room.{memoryOf}
+use Rattle.guest.specs.declared.Map.{Map}
 use Rattle.guest.proofs.LoadingLaws.{all-planned, first-planned}
 use Rattle.loader.specs.declared.Answer.{Answer}
 use Rattle.loader.specs.declared.Answer.the-variants.{Loaded, Refused}
 use Rattle.loader.specs.Lines.{tests, linePlan, LineLoads, TextRefused, no-boot-args, null-terminator}
 use Rattle.loader.proofs.LinesLaws.{plan-loaded, plan-refused}
 
-module _ (t : Text) (address : ℕ) (guest : List ℕ) {r : Answer} {after : List ℕ} (loads : LineLoads t address guest r after) where
+module _ (t : Text) (address : ℕ) (map : Map) (guest : List ℕ) {r : Answer} {after : List ℕ} (loads : LineLoads t address map guest r after) where
   abbrev row : List Test
-  row = tests t (memoryOf guest) address
+  row = tests t (memoryOf guest map) address
 
   pub loaded-where : AllHold row → r ≡ Loaded
   loaded-where h = loads .answer ∙ ap (λ (p : Plan Answer). p .answer) (all-planned Refused row (linePlan t address) h)
 
   pub where-loaded : r ≡ Loaded → AllHold row
-  where-loaded e = plan-loaded t (memoryOf guest) address (sym (loads .answer) ∙ e)
+  where-loaded e = plan-loaded t (memoryOf guest map) address (sym (loads .answer) ∙ e)
 
   pub refused-where : {refusal : Refusal} → FirstFails refusal row → r ≡ Refused refusal
   refused-where f = loads .answer ∙ ap (λ (p : Plan Answer). p .answer) (first-planned Refused row (linePlan t address) f)
 
   pub where-refused : {refusal : Refusal} → r ≡ Refused refusal → FirstFails refusal row
-  where-refused e = plan-refused t (memoryOf guest) address (sym (loads .answer) ∙ e)
+  where-refused e = plan-refused t (memoryOf guest map) address (sym (loads .answer) ∙ e)
 
 -- ---- the condition of InvalidCommandLine
 

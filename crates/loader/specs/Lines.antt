@@ -14,6 +14,7 @@ use Rattle.guest.specs.Lent.{memoryTests}
 use Rattle.guest.specs.Loading.{Plan, Loads, behindTests}
 use Rattle.guest.specs.Room.{room, memoryOf}
 use Rattle.guest.specs.Stream.{pour, streamAt}
+use Rattle.guest.specs.declared.Map.{Map}
 use Rattle.guest.specs.declared.Memory.{Memory}
 use Rattle.loader.specs.declared.Answer.{Answer}
 use Rattle.loader.specs.declared.Answer.the-variants.{Loaded, Refused}
@@ -41,9 +42,9 @@ linePlan t address = record { answer = Loaded; stream = streamAt address (lineBy
 abbrev pub planOf : Text → Memory → ℕ → Plan Answer
 planOf t m address = behindTests Refused (tests t m address) (linePlan t address)
 
--- loading a line into guest memory that held `before`: it answers r and leaves `after`
-abbrev pub LineLoads : Text → ℕ → List ℕ → Answer → List ℕ → Type 0
-LineLoads t address before r after = Loads (planOf t (memoryOf before) address) before r after
+-- loading a line into guest memory with a map that held `before`: it answers r and leaves `after`
+abbrev pub LineLoads : Text → ℕ → Map → List ℕ → Answer → List ℕ → Type 0
+LineLoads t address map before r after = Loads (planOf t (memoryOf before map) address) before r after
 
 -- the one refusal that more guest memory may lift
 abbrev pub ForRoom : Refusal → Type 0
@@ -60,6 +61,6 @@ lineNumber Loaded = 0
 lineNumber (Refused refusal) = numberOf refusal
 
 -- what loading the line of two texts says and leaves, as one list: the number of the answer, then guest memory. The capacity has no part in it
-unfoldable pub loadTold : ℕ → List ℕ → List ℕ → List ℕ → List ℕ
-loadTold address guest boot init =
-    lineNumber (planOf (bare boot init) (memoryOf guest) address .answer) ∷ pour (planOf (bare boot init) (memoryOf guest) address .stream) guest
+unfoldable pub loadTold : ℕ → Map → List ℕ → List ℕ → List ℕ → List ℕ
+loadTold address map guest boot init =
+    lineNumber (planOf (bare boot init) (memoryOf guest map) address .answer) ∷ pour (planOf (bare boot init) (memoryOf guest map) address .stream) guest

@@ -24,6 +24,7 @@ use cmdline::sizes;
 use cmdline::writing;
 use fields::copying;
 use guest::GuestAddress;
+use guest::Map;
 use guest::Memory;
 use guest::lent;
 use guest::room;
@@ -49,11 +50,18 @@ fn line_has_room(memory: Memory, address: GuestAddress, boots: usize, inits: usi
 
 // Writes the line of two texts and its zero to an address. The part of guest memory that begins there is lent on, and the writer sees only
 // that part.
-pub fn load_texts(guest: &mut [u8], guest_addr: GuestAddress, boot: &[u8], init: &[u8]) -> Answer
-    ensures { λ r. ⌜ LineLoads (bare (now (boot .entry)) (now (init .entry))) («guest_addr» .0) (now (guest .entry)) r (now (guest .exit)) ⌝ }
+pub fn load_texts(
+    guest: &mut [u8],
+    map: Map,
+    guest_addr: GuestAddress,
+    boot: &[u8],
+    init: &[u8],
+) -> Answer
+    ensures { λ r. ⌜ LineLoads (bare (now (boot .entry)) (now (init .entry))) («guest_addr» .0) map (now (guest .entry)) r (now (guest .exit)) ⌝ }
 {
     let memory = Memory {
         size: guest.len() as u64,
+        map: map,
     };
     let gate = lent::ask_memory(Gate::Open, memory);
     let gate = answers::require(
@@ -77,12 +85,17 @@ pub fn load_texts(guest: &mut [u8], guest_addr: GuestAddress, boot: &[u8], init:
 }
 
 // The same of a line by value.
-pub fn load_cmdline(guest: &mut [u8], guest_addr: GuestAddress, cmdline: Cmdline) -> Answer
-    ensures { λ r. ⌜ LineLoads (textOf cmdline) («guest_addr» .0) (now (guest .entry)) r (now (guest .exit)) ⌝ }
+pub fn load_cmdline(
+    guest: &mut [u8],
+    map: Map,
+    guest_addr: GuestAddress,
+    cmdline: Cmdline,
+) -> Answer
+    ensures { λ r. ⌜ LineLoads (textOf cmdline) («guest_addr» .0) map (now (guest .entry)) r (now (guest .exit)) ⌝ }
 {
     let boots = copying::lesser(cmdline.boots, LIMIT);
     let inits = copying::lesser(cmdline.inits, LIMIT);
     let boot = cmdline.boot;
     let init = cmdline.init;
-    load_texts(guest, guest_addr, &boot[..boots], &init[..inits])
+    load_texts(guest, map, guest_addr, &boot[..boots], &init[..inits])
 }

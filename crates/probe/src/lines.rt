@@ -1,5 +1,6 @@
 // Calls on a command line, one after the other, and the line put into guest memory.
 ghost use Prim.Native.Nat.{_<_, _≤_};
+use crate::mapped;
 use crate::telling;
 use cmdline::Answer;
 use cmdline::Cmdline;
@@ -9,6 +10,8 @@ use cmdline::Written;
 use fields::copying;
 use fields::numbers;
 use guest::GuestAddress;
+use guest::Map;
+use guest::maps;
 
 // The line after a call, and how many bytes the call took: 0 where it does not parse.
 struct Turn {
@@ -336,9 +339,9 @@ pub fn calls(body: &[u8]) {
     telling::word(b"\n");
 }
 
-fn load(body: &[u8], line: Cmdline, before: &[u8], guest: &mut [u8]) {
+fn load(body: &[u8], map: Map, line: Cmdline, before: &[u8], guest: &mut [u8]) {
     copying::copy(guest, before);
-    let answer = loader::load_cmdline(guest, GuestAddress(numbers::read_u64(body, 1)), line);
+    let answer = loader::load_cmdline(guest, map, GuestAddress(numbers::read_u64(body, 1)), line);
     telling::word(b" load");
     match answer {
         loader::Answer::Loaded => telling::word(b" ok"),
@@ -347,7 +350,8 @@ fn load(body: &[u8], line: Cmdline, before: &[u8], guest: &mut [u8]) {
     telling::guest(before, guest);
 }
 
-pub fn loading(body: &[u8], guest: &mut [u8]) {
+// A line put into guest memory over a map.
+fn loading_over(map: Map, body: &[u8], guest: &mut [u8]) {
     let n = long(body, 9);
     let from = 13;
     let to = from + n;
@@ -361,5 +365,21 @@ pub fn loading(body: &[u8], guest: &mut [u8]) {
     }
     let line = all_calls(&body[to..]);
     let start = 0;
-    load(body, line, &body[from..to], &mut guest[start..n]);
+    load(body, map, line, &body[from..to], &mut guest[start..n]);
+}
+
+// Over the map that is the whole of the guest.
+pub fn loading(body: &[u8], guest: &mut [u8]) {
+    let map = maps::whole(long(body, 9) as u64);
+    loading_over(map, body, guest);
+}
+
+// Over the body's own map.
+pub fn loading_with_map(body: &[u8], guest: &mut [u8]) {
+    let at = mapped::rest(body);
+    if body.len() <= at {
+        telling::malformed(b"the map");
+        return;
+    }
+    loading_over(mapped::map(body), &body[at..], guest);
 }

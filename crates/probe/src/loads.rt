@@ -1,4 +1,5 @@
 // Loads of images and walks over notes.
+use crate::mapped;
 use crate::telling;
 use elf::NoteAnswer;
 use elf::PvhBootCapability;
@@ -7,6 +8,8 @@ use fields::numbers;
 use guest::Given;
 use guest::GuestAddress;
 use guest::ImagePlace;
+use guest::Map;
+use guest::maps;
 
 // The address at a place of the body, where it is given.
 fn given(body: &[u8], at: u64, is_given: bool) -> Given {
@@ -57,9 +60,9 @@ fn elf_answer(answer: elf::Answer) {
 }
 
 // An image, and guest memory as it is before, both of the body, into guest memory.
-fn load_elf(body: &[u8], image: &[u8], before: &[u8], guest: &mut [u8]) {
+fn load_elf(body: &[u8], map: Map, image: &[u8], before: &[u8], guest: &mut [u8]) {
     copying::copy(guest, before);
-    let answer = elf::load(guest, image, offset(body), highmem(body));
+    let answer = elf::load(guest, map, image, offset(body), highmem(body));
     elf_answer(answer);
     telling::guest(before, guest);
 }
@@ -82,9 +85,9 @@ fn bzimage_answer(outcome: bzimage::Outcome) {
     }
 }
 
-fn load_bzimage(body: &[u8], image: &[u8], before: &[u8], guest: &mut [u8]) {
+fn load_bzimage(body: &[u8], map: Map, image: &[u8], before: &[u8], guest: &mut [u8]) {
     copying::copy(guest, before);
-    let outcome = bzimage::load(guest, image, offset(body), highmem(body));
+    let outcome = bzimage::load(guest, map, image, offset(body), highmem(body));
     bzimage_answer(outcome);
     telling::guest(before, guest);
 }
@@ -102,8 +105,8 @@ fn middle(body: &[u8], room: usize) -> usize {
     26 + image
 }
 
-// An ELF load, or a load of a bzImage, by the body's kind.
-pub fn load(body: &[u8], guest: &mut [u8]) {
+// An ELF load, or a load of a bzImage, over a map.
+fn load_over(is_elf: bool, map: Map, body: &[u8], guest: &mut [u8]) {
     let at = middle(body, guest.len());
     if at < 26 {
         telling::malformed(b"the lengths of image and guest");
@@ -118,11 +121,44 @@ pub fn load(body: &[u8], guest: &mut [u8]) {
     }
     let start = 0;
     let from = 26;
-    if numbers::byte_at(body, 0, 0) == 1 {
-        load_elf(body, &body[from..at], &body[at..], &mut guest[start..n]);
+    if is_elf {
+        load_elf(
+            body,
+            map,
+            &body[from..at],
+            &body[at..],
+            &mut guest[start..n],
+        );
     } else {
-        load_bzimage(body, &body[from..at], &body[at..], &mut guest[start..n]);
+        load_bzimage(
+            body,
+            map,
+            &body[from..at],
+            &body[at..],
+            &mut guest[start..n],
+        );
     }
+}
+
+// By the body's kind, over the map that is the whole of the guest.
+pub fn load(body: &[u8], guest: &mut [u8]) {
+    let map = maps::whole(numbers::read_u32(body, 22));
+    load_over(numbers::byte_at(body, 0, 0) == 1, map, body, guest);
+}
+
+// By the body's kind, over its own map.
+pub fn load_with_map(body: &[u8], guest: &mut [u8]) {
+    let at = mapped::rest(body);
+    if body.len() <= at {
+        telling::malformed(b"the map");
+        return;
+    }
+    load_over(
+        numbers::byte_at(body, 0, 0) == 6,
+        mapped::map(body),
+        &body[at..],
+        guest,
+    );
 }
 
 pub fn note(body: &[u8]) {

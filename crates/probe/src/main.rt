@@ -5,6 +5,7 @@ use libc::STDIN_FILENO;
 
 mod lines;
 mod loads;
+mod mapped;
 mod telling;
 
 // The longest body of a question: an image and a guest of 1 MiB each, and room for the rest.
@@ -27,6 +28,8 @@ fn answer(body: &[u8], guest: &mut [u8]) {
         2 => loads::note(body),
         4 => lines::calls(body),
         5 => lines::loading(body, guest),
+        6 | 7 => loads::load_with_map(body, guest),
+        8 => lines::loading_with_map(body, guest),
         _ => telling::malformed(b"no such kind"),
     }
 }

@@ -11,7 +11,7 @@ use std::fmt;
 
 use super::{bootparam, told, KernelLoaderResult, Result};
 use crate::lent::{self, Guest, Options};
-use crate::GuestAddress;
+use crate::{GuestAddress, Refusal};
 
 /// Why a bzImage was not loaded.
 #[derive(Clone, Copy, Debug, PartialEq, Eq)]
@@ -99,7 +99,15 @@ impl BzImage {
 }
 
 pub(super) fn load(guest: Guest, image: &[u8], options: Options) -> Result<KernelLoaderResult> {
-    let loaded = lent::bzimage_load(guest, image, options).map_err(told::by_bzimage)?;
+    loaded(guest, image, options).map_err(told::by_bzimage)
+}
+
+pub(super) fn loaded(
+    guest: Guest,
+    image: &[u8],
+    options: Options,
+) -> std::result::Result<KernelLoaderResult, Refusal> {
+    let loaded = lent::bzimage_load(guest, image, options)?;
     Ok(KernelLoaderResult {
         kernel_load: GuestAddress(loaded.kernel_load),
         kernel_end: loaded.kernel_end,

@@ -13,7 +13,7 @@ use std::fmt;
 use super::{told, KernelLoaderResult, Result};
 use crate::entry;
 use crate::lent::{self, Guest, Options};
-use crate::GuestAddress;
+use crate::{GuestAddress, Refusal};
 
 /// Why an ELF image was not loaded.
 #[derive(Clone, Copy, Debug, PartialEq, Eq)]
@@ -217,8 +217,16 @@ pub(super) fn load(
     image: &[u8],
     options: Options,
 ) -> Result<(KernelLoaderResult, Option<PvhNote>)> {
+    loaded(guest, image, options).map_err(told::by_elf)
+}
+
+pub(super) fn loaded(
+    guest: Guest,
+    image: &[u8],
+    options: Options,
+) -> std::result::Result<(KernelLoaderResult, Option<PvhNote>), Refusal> {
     let [kernel_load, kernel_end, code, address, place, size] =
-        lent::elf_load(guest, image, options).map_err(told::by_elf)?;
+        lent::elf_load(guest, image, options)?;
     let kernel = KernelLoaderResult {
         kernel_load: GuestAddress(kernel_load),
         kernel_end,

@@ -11,7 +11,7 @@
 use std::fmt;
 
 use crate::lent::{self, Guest};
-use crate::{GuestAddress, GuestUsize};
+use crate::{GuestAddress, GuestUsize, Refusal};
 
 pub use crate::cmdline::Cmdline;
 
@@ -20,12 +20,14 @@ pub mod bzimage;
 pub mod elf;
 #[cfg(feature = "vm-memory")]
 mod guest_memory;
+mod over_map;
 mod told;
 
 pub use bzimage::*;
 pub use elf::*;
 #[cfg(feature = "vm-memory")]
 pub use guest_memory::{load_cmdline, KernelLoader};
+pub use over_map::{load_cmdline_into_map, MapError};
 
 /// Why a kernel or a line was not put into guest memory.
 #[derive(Clone, Copy, Debug, PartialEq, Eq)]
@@ -125,5 +127,13 @@ pub fn load_cmdline_into(
 }
 
 fn put_line(guest: Guest, guest_addr: GuestAddress, cmdline: &Cmdline) -> Result<()> {
-    lent::line_load(guest, guest_addr, cmdline.bytes()).map_err(told::by_line)
+    put(guest, guest_addr, cmdline).map_err(told::by_line)
+}
+
+fn put(
+    guest: Guest,
+    guest_addr: GuestAddress,
+    cmdline: &Cmdline,
+) -> std::result::Result<(), Refusal> {
+    lent::line_load(guest, guest_addr, cmdline.bytes())
 }

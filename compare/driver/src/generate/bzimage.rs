@@ -74,6 +74,7 @@ fn structured(rng: &mut Rng) -> Load {
     }
     Load {
         options,
+        map: None,
         image,
         guest: rng.bytes(guest),
     }

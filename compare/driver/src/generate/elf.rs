@@ -33,6 +33,7 @@ fn random_bytes(rng: &mut Rng) -> Load {
     let length = guest_length(rng);
     Load {
         options: options(rng, &[length as u64]),
+        map: None,
         image,
         guest: rng.bytes(length),
     }
@@ -95,6 +96,7 @@ fn large(rng: &mut Rng) -> Load {
     }
     Load {
         options: plan.options,
+        map: None,
         image,
         guest: rng.bytes(guest),
     }
@@ -145,6 +147,7 @@ fn structured(rng: &mut Rng) -> Load {
     }
     Load {
         options: plan.options,
+        map: None,
         image,
         guest: rng.bytes(guest),
     }

@@ -73,6 +73,7 @@ impl Plan {
                 offset: self.offset,
                 highmem: None,
             },
+            map: None,
             image,
             guest,
         }

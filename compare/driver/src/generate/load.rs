@@ -17,6 +17,7 @@ pub fn question(rng: &mut Rng) -> LineLoad {
         _ => rng.near(&[(guest as u64).wrapping_sub(written)]),
     };
     LineLoad {
+        map: None,
         address,
         guest: rng.bytes(guest),
         calls,

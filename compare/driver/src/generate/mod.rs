@@ -6,10 +6,12 @@ mod exhaustive;
 mod headers;
 mod line;
 mod load;
+mod maps;
 mod note;
 mod text;
 
 pub use exhaustive::exhaustive;
+pub use maps::over_map;
 
 use crate::question::{Area, Question};
 use crate::rng::Rng;

@@ -13,18 +13,18 @@ pour-segments-requires c κs =
     let args = c .before .before .before .before .before .before .before .before .before .args in
     let loaded = sym (c .before .before .before .before .before .before .answer-load .ensures) ∙ c .before .before .before .before .answer2 .given .1 in
     rw (c .before .before .read-u16 .ensures .value)
-    (accepted-stand (args .image .now) (memoryOf (args .guest .now)) (args .kernel-offset) (args .highmem-start) (subst⁻¹ Accepted loaded is-accepted))
+    (accepted-stand (args .image .now) (memoryOf (args .guest .now) (args .map)) (args .kernel-offset) (args .highmem-start) (subst⁻¹ Accepted loaded is-accepted))
 
 returns : tie.Need-returns
 returns c =
     let args = c .before .before .before .before .before .before .args in
-    load-refused (args .image .now) (memoryOf (args .guest .now)) (args .kernel-offset) (args .highmem-start) (args .guest .now) (c .before .before .before .answer-load .ensures)
+    load-refused (args .image .now) (memoryOf (args .guest .now) (args .map)) (args .kernel-offset) (args .highmem-start) (args .guest .now) (c .before .before .before .answer-load .ensures)
     (c .before .answer .given .1)
 
 returns-2 : tie.Need-returns-2
 returns-2 c =
     let args = c .before .before .before .before .before .before .before .before .before .before .before .before .args in
-    load-accepted (args .image .now) (memoryOf (args .guest .now)) (args .kernel-offset) (args .highmem-start) (c .before .before .before .before .before .before .before .before .before .answer-load .ensures) (c .before .before .before .before .before .before .before .answer2 .given .1)
+    load-accepted (args .image .now) (memoryOf (args .guest .now) (args .map)) (args .kernel-offset) (args .highmem-start) (c .before .before .before .before .before .before .before .before .before .answer-load .ensures) (c .before .before .before .before .before .before .before .answer2 .given .1)
     (c .before .before .before .before .before .read-u16 .ensures .value) (c .before .before .before .amount .ensures) (c .before .before .pour-segments .ensures)
 
 pub load-spec : {M : Type 1} → statement M

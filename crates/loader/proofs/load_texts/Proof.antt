@@ -14,7 +14,7 @@ returns : tie.Need-returns
 returns c =
     let args = c .before .before .before .before .before .before .before .before .before .before .before .before .args in
     let t = bare (args .boot .now) (args .init .now) in
-    let m = memoryOf (args .guest .now) in
+    let m = memoryOf (args .guest .now) (args .map) in
     let asked =
     tests-asked (args .boot .now) (args .init .now) m (args .guest-addr .0) (c .before .before .before .before .before .before .before .before .ask-memory .ensures) (c .before .before .before .before .before .before .before .text-gate .ensures) (c .before .before .before .before .before .before .is-open .ensures)
     (c .before .before .before .before .before .require .ensures) (c .before .before .before .before .line-has-room .ensures) (c .before .before .before .require2 .ensures) in
@@ -24,7 +24,7 @@ returns-2 : tie.Need-returns-2
 returns-2 c =
     let args = c .before .before .before .before .before .before .before .before .before .before .before .before .before .before .before .before .args in
     let t = bare (args .boot .now) (args .init .now) in
-    let m = memoryOf (args .guest .now) in
+    let m = memoryOf (args .guest .now) (args .map) in
     let asked =
     tests-asked (args .boot .now) (args .init .now) m (args .guest-addr .0) (c .before .before .before .before .before .before .before .before .before .before .before .before .ask-memory .ensures) (c .before .before .before .before .before .before .before .before .before .before .before .text-gate .ensures) (c .before .before .before .before .before .before .before .before .before .before .is-open .ensures)
     (c .before .before .before .before .before .before .before .before .before .require .ensures) (c .before .before .before .before .before .before .before .before .line-has-room .ensures) (c .before .before .before .before .before .before .before .require2 .ensures) in

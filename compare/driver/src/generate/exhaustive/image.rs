@@ -120,6 +120,7 @@ fn each_option(load: Load, longest_guest: usize) -> impl Iterator<Item = Load> {
         let load = load.clone();
         (0..=longest_guest).map(move |guest| Load {
             options,
+            map: None,
             image: load.image.clone(),
             guest: examples::guest(guest),
         })

@@ -203,6 +203,7 @@ pub fn line_load() -> impl Iterator<Item = LineLoad> {
             addresses.map(move |address| {
                 let text = text.clone();
                 LineLoad {
+                    map: None,
                     address,
                     guest: examples::guest(guest),
                     calls: vec![Call::TryFrom { capacity: 64, text }],

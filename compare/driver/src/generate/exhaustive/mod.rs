@@ -1,14 +1,19 @@
 //! Every case of a kind near the worked examples: each byte with each value, each length, and the limits of each field crossed;
-//! and program headers of each kind in each order.
+//! program headers of each kind in each order; and small maps.
 
 mod image;
 mod line;
+mod maps;
 mod note;
 
 use crate::generate::headers;
 use crate::question::{Area, Question};
 
 pub fn exhaustive(area: Area) -> Box<dyn Iterator<Item = Question>> {
+    Box::new(over_whole_slices(area).chain(maps::maps(area)))
+}
+
+fn over_whole_slices(area: Area) -> Box<dyn Iterator<Item = Question>> {
     match area {
         Area::Elf => Box::new(
             image::elf()
