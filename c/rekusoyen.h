@@ -65,7 +65,7 @@ enum rekusoyen_answer {
     REKUSOYEN_COMMAND_LINE_OVERFLOW = 32,          /* it and its zero lie within no range of guest memory */
 
     /* a line built */
-    REKUSOYEN_INVALID_CAPACITY = 41,               /* capacity not 1 to 4096, text too long for it, or bytes that hold no line */
+    REKUSOYEN_INVALID_CAPACITY = 41,               /* capacity not 1 to 16384, text too long for it, or bytes that hold no line */
     REKUSOYEN_INVALID_ASCII = 42,                  /* a byte outside 32 to 126 */
     REKUSOYEN_HAS_SPACE = 43,                      /* a space in a key */
     REKUSOYEN_HAS_EQUALS = 44,                     /* an equals sign in a key */
@@ -319,7 +319,7 @@ uint32_t rekusoyen_bzimage_load(
  * Every refused call leaves everything that it was lent as it was. An accepted call that is lent a line to change changes the
  * text that its comment names, from its first new byte on, and that text's length.
  */
-#define REKUSOYEN_LINE_LIMIT 4096
+#define REKUSOYEN_LINE_LIMIT 16384
 #define REKUSOYEN_LINE_SIZE (24 + 2 * REKUSOYEN_LINE_LIMIT)
 
 /* How many places the lists for a count and for a comparison have. */

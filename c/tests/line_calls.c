@@ -24,9 +24,9 @@ static const struct {
     struct text boot, init;
 } makings[] = {
     {"new", {.function = NEW, .capacity = 1}, REKUSOYEN_ACCEPTED, EMPTY, EMPTY},
-    {"new of the greatest capacity", {.function = NEW, .capacity = 4096}, REKUSOYEN_ACCEPTED, EMPTY, EMPTY},
+    {"new of the greatest capacity", {.function = NEW, .capacity = 16384}, REKUSOYEN_ACCEPTED, EMPTY, EMPTY},
     {"new of capacity 0", {.function = NEW, .capacity = 0}, REKUSOYEN_INVALID_CAPACITY, EMPTY, EMPTY},
-    {"new above the limit", {.function = NEW, .capacity = 4097}, REKUSOYEN_INVALID_CAPACITY, EMPTY, EMPTY},
+    {"new above the limit", {.function = NEW, .capacity = 16385}, REKUSOYEN_INVALID_CAPACITY, EMPTY, EMPTY},
     {"new far above it", {.function = NEW, .capacity = UINT64_MAX}, REKUSOYEN_INVALID_CAPACITY, EMPTY, EMPTY},
 
 #define TRY(c, t) {.function = TRY_FROM, .capacity = (c), .text = T(t)}
@@ -38,7 +38,7 @@ static const struct {
     {"any bytes", TRY(9, "\xff\0a -- \x01"), REKUSOYEN_ACCEPTED, T("\xff\0a"), T("\x01")},
     {"a text that is too long", TRY(15, "a=\"x -- y\" -- z"), REKUSOYEN_INVALID_CAPACITY, EMPTY, EMPTY},
     {"a text and capacity 0", TRY(0, "a"), REKUSOYEN_INVALID_CAPACITY, EMPTY, EMPTY},
-    {"a text and a capacity above the limit", TRY(4097, "a"), REKUSOYEN_INVALID_CAPACITY, EMPTY, EMPTY},
+    {"a text and a capacity above the limit", TRY(16385, "a"), REKUSOYEN_INVALID_CAPACITY, EMPTY, EMPTY},
 };
 
 #define STR(t) {.function = INSERT_STR, .text = T(t)}

@@ -147,14 +147,14 @@ pub struct Cmdline {
 }
 
 impl Cmdline {
-    /// An empty line of a capacity from 1 to 4,096, the closing zero counted.
+    /// An empty line of a capacity from 1 to 16,384, the closing zero counted.
     ///
     /// ```
     /// use rekusoyen::cmdline::{Cmdline, Error};
     ///
     /// assert!(Cmdline::new(100).is_ok());
     /// assert_eq!(Cmdline::new(0), Err(Error::InvalidCapacity));
-    /// assert_eq!(Cmdline::new(4097), Err(Error::InvalidCapacity));
+    /// assert_eq!(Cmdline::new(16385), Err(Error::InvalidCapacity));
     /// ```
     pub fn new(capacity: usize) -> Result<Cmdline> {
         let mut bytes = Box::new([0; LINE_SIZE]);

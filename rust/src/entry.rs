@@ -7,7 +7,7 @@
 pub const LINE_SIZE: usize = 24 + 2 * LIMIT;
 
 /// The greatest capacity of a line, its closing zero counted.
-pub const LIMIT: usize = 4096;
+pub const LIMIT: usize = 16384;
 
 /// How many bytes a bzImage's setup header has.
 pub const SETUP_HEADER_SIZE: usize = 123;

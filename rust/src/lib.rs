@@ -38,7 +38,7 @@
 //!
 //! # Where the answers differ from linux-loader's
 //!
-//! `docs/DIFFERENCES.md` of the repository has every difference. Most to be noticed: a command line's capacity is at most 4,096,
+//! `docs/DIFFERENCES.md` of the repository has every difference. Most to be noticed: a command line's capacity is at most 16,384,
 //! and an image and guest memory have at most 2^40 bytes each.
 
 #![warn(missing_docs)]

@@ -21,13 +21,13 @@ fn shown(boot: &str, init: &str, capacity: usize) -> String {
 }
 
 #[test]
-fn a_capacity_is_1_to_4096() {
-    for capacity in [1, 2, 4095, 4096] {
+fn a_capacity_is_1_to_16384() {
+    for capacity in [1, 2, 4097, 16383, 16384] {
         let new = Cmdline::new(capacity).unwrap();
         assert_eq!(format!("{new:?}"), shown("", "", capacity));
         assert_eq!(new.as_cstring().unwrap().as_bytes_with_nul(), b"\0");
     }
-    for capacity in [0, 4097, usize::MAX] {
+    for capacity in [0, 16385, usize::MAX] {
         assert_eq!(Cmdline::new(capacity), Err(Error::InvalidCapacity));
         assert_eq!(Cmdline::try_from("", capacity), Err(Error::InvalidCapacity));
     }
@@ -194,11 +194,11 @@ fn try_from() {
             "{text:?}"
         );
     }
-    let longest = "x".repeat(4095);
-    let line = Cmdline::try_from(&longest, 4096).unwrap();
+    let longest = "x".repeat(16383);
+    let line = Cmdline::try_from(&longest, 16384).unwrap();
     assert_eq!(line.as_cstring().unwrap().as_bytes(), longest.as_bytes());
     assert_eq!(
-        Cmdline::try_from(&"x".repeat(4096), 4096),
+        Cmdline::try_from(&"x".repeat(16384), 16384),
         Err(Error::InvalidCapacity)
     );
 }

@@ -18,6 +18,7 @@ pub fn all() -> Vec<Case> {
         notes(),
         bzimage(),
         lines(),
+        long_lines(),
         lists_and_devices(),
         equal(),
         map_cases::all(),
@@ -471,8 +472,9 @@ fn lines() -> Vec<Case> {
     vec![
         line(&[new(0)], "line 41 []"),
         line(&[new(1)], "line ok []"),
-        line(&[new(4096)], "line ok []"),
-        line(&[new(4097)], "line 41 []"),
+        line(&[new(4097)], "line ok []"),
+        line(&[new(16384)], "line ok []"),
+        line(&[new(16385)], "line 41 []"),
         // which test of a key comes first, and which of a value
         inserted("a\x01 =", "", "line ok 42 []"),
         inserted("a =", "", "line ok 43 []"),
@@ -505,6 +507,25 @@ fn lines() -> Vec<Case> {
         (
             Question::Line(vec![new(100), slug("foo"), Call::AsCstring { room: 3 }]),
             "line ok ok 62",
+        ),
+    ]
+}
+
+/// Lines near the greatest capacity. Written into room for 100 bytes they are refused; that they are whole shows in a comparison.
+fn long_lines() -> Vec<Case> {
+    let word = |length| "x".repeat(length);
+    vec![
+        line(&[from(&word(16383), 16384), slug("")], "line ok 47 62"),
+        line(&[from(&word(16384), 16384)], "line 41 []"),
+        line(
+            &[
+                new(9001),
+                slug(&word(9000)),
+                Call::Keep,
+                from(&word(9000), 16384),
+                Call::IsEqual,
+            ],
+            "line ok ok ok ok equal 62",
         ),
     ]
 }

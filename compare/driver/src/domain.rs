@@ -5,11 +5,9 @@ use crate::answer::Answer;
 use crate::parts::{self, Part};
 use crate::question::{Call, Load, Question};
 use second::fields::range;
+use second::line::CAPACITY_LIMIT;
 use second::map::Map;
 use std::ops::Range;
-
-/// The greatest capacity that the rules allow.
-const CAPACITY_LIMIT: u32 = 4096;
 
 /// Whether the crate is asked at all.
 pub fn asks_crate(question: &Question) -> bool {
@@ -76,7 +74,7 @@ pub fn asks_call(call: &Call) -> bool {
 
 /// An added refusal: the crate has no upper end of capacities.
 fn over_capacity_limit(capacity: u32) -> bool {
-    capacity > CAPACITY_LIMIT
+    u64::from(capacity) > CAPACITY_LIMIT
 }
 
 /// An added refusal: the crate takes a list of texts, so its ends are never in disorder.
@@ -163,8 +161,8 @@ mod tests {
 
     #[test]
     fn added_refusals_are_left_out_call_by_call() {
-        assert!(asks_call(&Call::New { capacity: 4096 }));
-        assert!(!asks_call(&Call::New { capacity: 4097 }));
+        assert!(asks_call(&Call::New { capacity: 16384 }));
+        assert!(!asks_call(&Call::New { capacity: 16385 }));
         let list = |ends: &[u32]| Call::InsertMultiple {
             key: vec![],
             ends: ends.to_vec(),

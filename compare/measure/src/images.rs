@@ -5,8 +5,8 @@ use crate::memory::Memory;
 /// Where every kernel goes: the start of high memory.
 pub const START: u64 = 1 << 20;
 
-/// The capacity of a line.
-pub const CAPACITY: usize = 4096;
+/// The capacity of a line: the greatest there is.
+pub const CAPACITY: usize = rekusoyen::entry::LIMIT;
 
 const HEADER: usize = 64;
 const PROGRAM_HEADER: usize = 56;
@@ -52,20 +52,20 @@ pub fn bzimage(size: usize) -> Memory {
 /// The keys and values of one line.
 pub type Pairs = Vec<(String, String)>;
 
-/// The pairs of each line: `name000=value000` and on, 16 bytes and a space, so that 200 of them fill most of a line.
+/// The pairs of each line: `name000=value000` and on, 16 bytes and a space, of which 960 fill most of a line.
 pub fn pairs(lines: usize, pairs: usize) -> Vec<Pairs> {
     let pair = |number| (format!("name{number:03}"), format!("value{number:03}"));
     let line = |line| (line * pairs..(line + 1) * pairs).map(pair).collect();
     (0..lines).map(line).collect()
 }
 
-/// The text of a full line: 180 words of boot text, and init text up to the last byte that a line of this capacity takes.
+/// The text of a full line: 720 words of boot text, and init text up to the last byte that a line of this capacity takes.
 pub fn full_text() -> String {
     let words = |numbers: std::ops::Range<usize>| {
         let word = |number| format!("name{number:03}=value{number:03}");
         numbers.map(word).collect::<Vec<_>>().join(" ")
     };
-    let mut text = format!("{} -- {} ", words(0..180), words(180..240));
+    let mut text = format!("{} -- {} ", words(0..720), words(720..960));
     text.push_str(&"x".repeat(CAPACITY - 1 - text.len()));
     text
 }

@@ -1,6 +1,7 @@
 //! Plain Rust command lines, written for this measurement, with the library's tests: one of boot arguments alone that grows in a `String`, and
 //! one that is made from its whole text.
 
+use crate::images::CAPACITY;
 use rekusoyen::cmdline::{Error, Result};
 
 pub struct Line {
@@ -10,7 +11,7 @@ pub struct Line {
 
 impl Line {
     pub fn new(capacity: usize) -> Result<Line> {
-        if capacity == 0 || capacity > 4096 {
+        if capacity == 0 || capacity > CAPACITY {
             return Err(Error::InvalidCapacity);
         }
         let text = String::with_capacity(capacity);
@@ -52,7 +53,7 @@ impl Parts {
         let boot = text[..at].trim_matches(blank);
         let init = text[at..].get(4..).unwrap_or("").trim_matches(blank);
         let with_init = if init.is_empty() { 0 } else { 4 + init.len() };
-        if capacity == 0 || capacity > 4096 || boot.len() + 1 + with_init > capacity {
+        if capacity == 0 || capacity > CAPACITY || boot.len() + 1 + with_init > capacity {
             return Err(Error::InvalidCapacity);
         }
         let (boot, init) = (boot.to_string(), init.to_string());
@@ -167,7 +168,7 @@ mod tests {
             "é",
             "0123456789",
         ];
-        for capacity in [1, 8, 40, 4096] {
+        for capacity in [1, 8, 40, CAPACITY] {
             let mut plain = Line::new(capacity).unwrap();
             let mut library = Cmdline::new(capacity).unwrap();
             for key in texts {
@@ -195,7 +196,7 @@ mod tests {
             "a\0b",
             "a\t--\tb",
         ];
-        for capacity in [0, 1, 4, 16, 4096, 4097] {
+        for capacity in [0, 1, 4, 16, CAPACITY, CAPACITY + 1] {
             for text in texts {
                 let library = Cmdline::try_from(text, capacity);
                 let plain = Parts::parse(text, capacity);
@@ -210,7 +211,7 @@ mod tests {
 
     #[test]
     fn capacities_are_the_librarys() {
-        for capacity in [0, 1, 4096, 4097] {
+        for capacity in [0, 1, CAPACITY, CAPACITY + 1] {
             let plain = Line::new(capacity).map(|_| ());
             assert_eq!(plain, Cmdline::new(capacity).map(|_| ()));
         }

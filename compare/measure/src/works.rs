@@ -52,7 +52,7 @@ pub fn all() -> Vec<Work> {
         ),
         ("pages", "ELF, 1,000 segments of 4 KiB", elf(1000, 4096)),
         ("small", "ELF, 1,000 segments of 64 bytes", elf(1000, 64)),
-        // a line is full after some 240 of these pairs
+        // a line is full after some 960 of these pairs
         (
             "lines",
             "1,000 insertions, into 5 lines",

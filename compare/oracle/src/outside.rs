@@ -269,15 +269,15 @@ fn high_bytes() {
 
 fn large_capacities() {
     say(
-        "new(4097)",
+        "new(16385)",
         "refused 41",
-        Cmdline::new(4097).map_or_else(|error| format!("{error}"), |_| "accepted".into()),
+        Cmdline::new(16385).map_or_else(|error| format!("{error}"), |_| "accepted".into()),
     );
-    let long = "a".repeat(4096);
+    let long = "a".repeat(16384);
     say(
-        "try_from of 4,096 times \"a\", capacity 4097",
+        "try_from of 16,384 times \"a\", capacity 16385",
         "refused 41",
-        Cmdline::try_from(&long, 4097)
+        Cmdline::try_from(&long, 16385)
             .map_or_else(|error| format!("{error}"), |_| "accepted".into()),
     );
     say(

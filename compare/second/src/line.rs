@@ -6,7 +6,7 @@ use crate::text::{printable, trimmed, valid_key, valid_value};
 use crate::Refusal;
 
 /// The greatest capacity, the closing zero counted.
-pub const CAPACITY_LIMIT: u64 = 4096;
+pub const CAPACITY_LIMIT: u64 = 16384;
 
 #[derive(Clone, Debug)]
 pub struct Line {
@@ -183,8 +183,8 @@ mod tests {
     }
 
     #[test]
-    fn capacities_run_from_1_to_4096() {
-        for (capacity, accepted) in [(0, false), (1, true), (4096, true), (4097, false)] {
+    fn capacities_run_from_1_to_16384() {
+        for (capacity, accepted) in [(0, false), (1, true), (16384, true), (16385, false)] {
             assert_eq!(Line::new(capacity).is_ok(), accepted);
             assert_eq!(Line::try_from(b"", capacity).is_ok(), accepted);
         }

@@ -5,7 +5,7 @@ use lib.Dec.{leb}
 
 -- the greatest capacity, the closing zero counted, and the length of each of the two buffers
 abbrev pub limit : ℕ
-limit = 4096
+limit = 16384
 
 -- a capacity that a line can have: 1 to the limit
 unfoldable pub allowed : ℕ → Bool

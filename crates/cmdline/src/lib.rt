@@ -30,7 +30,7 @@ pub mod sizes;
 pub mod writing;
 
 // The greatest capacity, the closing zero counted, and the length of each buffer.
-pub const LIMIT: usize = 4096;
+pub const LIMIT: usize = 16384;
 
 // The two texts, each at the start of its buffer with zeros after it, and the greatest counted size. A length or a capacity above
 // LIMIT, which no function here makes, counts as LIMIT.

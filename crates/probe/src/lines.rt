@@ -5,6 +5,7 @@ use crate::telling;
 use cmdline::Answer;
 use cmdline::Cmdline;
 use cmdline::DeviceId;
+use cmdline::LIMIT;
 use cmdline::Reply;
 use cmdline::Written;
 use fields::copying;
@@ -12,6 +13,9 @@ use fields::numbers;
 use guest::GuestAddress;
 use guest::Map;
 use guest::maps;
+
+// The longest output that is lent to a writing: room for a line of the greatest capacity, and as much again.
+const LONGEST_OUTPUT: usize = 2 * LIMIT;
 
 // The line after a call, and how many bytes the call took: 0 where it does not parse.
 struct Turn {
@@ -245,13 +249,13 @@ fn as_cstring(line: Cmdline, call: &[u8]) -> Turn {
             used: 0,
         };
     }
-    if 8192 < n {
+    if LONGEST_OUTPUT < n {
         return Turn {
             line: line,
             used: 0,
         };
     }
-    let mut out = [0xA5u8; 8192];
+    let mut out = [0xA5u8; LONGEST_OUTPUT];
     let from = 0;
     write(line, &mut out[from..n]);
     Turn {

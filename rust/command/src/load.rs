@@ -7,8 +7,8 @@ use rekusoyen::{GuestAddress, Refusal};
 
 use crate::arguments::{Format, Load};
 
-/// The greatest capacity of a command line.
-pub const CAPACITY: usize = 4096;
+/// The capacity of the command line: the greatest there is.
+pub const CAPACITY: usize = rekusoyen::entry::LIMIT;
 
 /// What an accepted load did.
 pub struct Loaded {

@@ -222,9 +222,9 @@ fn a_line_goes_where_it_is_told_or_behind_the_kernel() {
          try: a boot argument before it, as in 'quiet -- single'\n",
     );
     refused(
-        &["load", "--cmdline", &"x".repeat(4096)],
+        &["load", "--cmdline", &"x".repeat(16384)],
         &elf(),
-        "refused 41 InvalidCapacity\nthe command line of 4096 bytes takes more than 4096, its zero counted\n",
+        "refused 41 InvalidCapacity\nthe command line of 16384 bytes takes more than 16384, its zero counted\n",
     );
 }
 

@@ -3,7 +3,10 @@
 use crate::generate::text;
 use crate::question::Call;
 use crate::rng::Rng;
-use second::line::Line;
+use second::line::{Line, CAPACITY_LIMIT};
+
+/// The greatest capacity.
+const TOP: usize = CAPACITY_LIMIT as usize;
 
 /// Follows the line as it grows, so that the next text can be made to fit exactly, or to miss by one.
 struct Follower {
@@ -15,7 +18,7 @@ pub fn calls(rng: &mut Rng) -> Vec<Call> {
     let count = rng.length(1, 10);
     let (mut calls, _) = calls_of(rng, count);
     if rng.one_in(2) {
-        calls.push(Call::AsCstring { room: 4096 });
+        calls.push(Call::AsCstring { room: TOP as u32 });
     }
     calls
 }
@@ -44,24 +47,36 @@ pub fn calls_of(rng: &mut Rng, count: usize) -> (Vec<Call>, Line) {
 }
 
 fn capacity(rng: &mut Rng) -> u32 {
-    match rng.below(32) {
-        0 => rng.pick(&[0, 4096, 4097, u32::MAX]),
-        1 => rng.length(200, 4096) as u32,
-        2..=7 => rng.length(40, 200) as u32,
-        8..=11 => rng.length(1, 6) as u32,
+    match rng.below(64) {
+        0 | 1 => rng.pick(&[0, TOP as u32, TOP as u32 + 1, u32::MAX]),
+        2 => rng.length(200, TOP / 4) as u32,
+        3 => rng.length(TOP / 4, TOP) as u32,
+        4..=15 => rng.length(40, 200) as u32,
+        16..=23 => rng.length(1, 6) as u32,
         _ => rng.length(2, 40) as u32,
     }
 }
 
 fn try_from(rng: &mut Rng) -> Call {
-    let text = text::whole(rng);
-    let needed = Line::try_from(&text, 4096).map_or(1, |line| line.counted_size());
+    let mut text = text::whole(rng);
+    if rng.one_in(64) {
+        fill_up(rng, &mut text);
+    }
+    let needed = Line::try_from(&text, CAPACITY_LIMIT).map_or(TOP, |line| line.counted_size());
     let capacity = if rng.one_in(3) {
         capacity(rng)
     } else {
         about(rng, needed) as u32
     };
     Call::TryFrom { capacity, text }
+}
+
+/// Lengthens a text to the longest that a line holds, or one or two off.
+fn fill_up(rng: &mut Rng, text: &mut Vec<u8>) {
+    let length = about(rng, TOP - 1);
+    let place = rng.length(0, text.len());
+    let more = length.saturating_sub(text.len());
+    text.splice(place..place, std::iter::repeat_n(b'x', more));
 }
 
 impl Follower {
@@ -169,7 +184,7 @@ impl Follower {
     fn as_cstring(&self, rng: &mut Rng) -> Call {
         let room = match rng.below(4) {
             0 => rng.length(0, 7),
-            1 => 4096,
+            1 => TOP,
             _ => about(rng, self.line.counted_size()),
         };
         let room = room as u32;
@@ -219,5 +234,51 @@ fn device(rng: &mut Rng) -> Call {
         address,
         irq,
         id,
+    }
+}
+
+#[cfg(test)]
+mod tests {
+    use super::*;
+
+    /// What a line of the greatest capacity is after a call that the generator makes.
+    fn after_a_call(rng: &mut Rng) -> (Call, Line) {
+        let mut follower = Follower {
+            line: Line::new(CAPACITY_LIMIT).unwrap(),
+            capacity: TOP,
+        };
+        let call = follower.next(rng);
+        follower.follow(&call);
+        (call, follower.line)
+    }
+
+    /// Lines of the greatest capacity are filled up to their last byte, by calls and by a whole text, and one byte more is tried.
+    #[test]
+    fn the_greatest_capacity_is_reached() {
+        let rng = &mut Rng::new(1);
+        let reached =
+            |mut is_reached: Box<dyn FnMut() -> bool + '_>| (0..20_000).any(|_| is_reached());
+        assert!(reached(Box::new(|| capacity(rng) as usize == TOP)));
+        assert!(reached(Box::new(|| capacity(rng) as usize == TOP + 1)));
+        assert!(reached(Box::new(
+            || after_a_call(rng).1.counted_size() == TOP
+        )));
+        assert!(reached(Box::new(|| match after_a_call(rng) {
+            (Call::InsertStr(text), line) => text.len() == TOP && line.counted_size() == 1,
+            _ => false,
+        })));
+        let made = |call: Call| match call {
+            Call::TryFrom { capacity, text } => {
+                Line::try_from(&text, capacity.into()).map(|line| (line.counted_size(), text.len()))
+            }
+            _ => unreachable!("a making from a text"),
+        };
+        assert!(reached(Box::new(|| {
+            matches!(made(try_from(rng)), Ok((size, _)) if size == TOP)
+        })));
+        assert!(reached(Box::new(|| match try_from(rng) {
+            Call::TryFrom { capacity, text } => capacity as usize == TOP && text.len() == TOP,
+            _ => false,
+        })));
     }
 }

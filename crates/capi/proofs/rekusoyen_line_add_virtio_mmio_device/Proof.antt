@@ -36,5 +36,5 @@ rekusoyen-line-add-virtio-mmio-device-spec =
     (λ c κs. search needs)
     (λ c. search needs)
     returns
-    (λ c. search needs)
+    (λ c. omega arith)
     returns-2)

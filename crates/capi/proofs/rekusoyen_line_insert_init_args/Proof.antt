@@ -35,5 +35,5 @@ rekusoyen-line-insert-init-args-spec =
     (λ c κs. search needs)
     (λ c. search needs)
     returns
-    (λ c. search needs)
+    (λ c. omega arith)
     returns-2)
