@@ -63,6 +63,8 @@ static struct {
     NAMED(SLICE_TOO_LONG),
     NAMED(BAD_LIST),
     NAMED(NO_ROOM),
+    NAMED(UNCLOSED_QUOTE),
+    NAMED(TOO_FEW_PLACES),
     NAMED(BAD_MAP),
 };
 

@@ -9,6 +9,7 @@
 #include <pthread.h>
 #include <stdio.h>
 #include <stdlib.h>
+#include <string.h>
 #include <unistd.h>
 
 #define SMALL_STACK ((size_t)16384)
@@ -23,6 +24,8 @@ static uint64_t out[REKUSOYEN_ELF_LOAD_OUT];
 static struct image elf, bzimage;
 static const uint8_t text[] = "text";
 static const size_t ends[] = {2, 4};
+static uint8_t quotes[REKUSOYEN_LINE_LIMIT];
+static uint64_t word_starts[1], word_ends[1], word_splits[1];
 
 /* As many ranges as a map has; all that is loaded goes to the second. */
 static const uint64_t ranges[] = {
@@ -100,6 +103,13 @@ static uint32_t line_load(void)
     return rekusoyen_line_load(guest, sizeof guest, ranges, RANGES, 16, other_line, sizeof other_line);
 }
 
+/* A line of one word that is quotes alone: the reader of plain text and that of quoted text hand over at each. */
+static uint32_t line_words(void)
+{
+    return rekusoyen_line_words(
+        quotes, sizeof quotes, word_starts, 1, word_ends, 1, word_splits, 1, out, REKUSOYEN_LINE_WORDS_OUT);
+}
+
 /* Every function, in an order in which each call is accepted. */
 static const struct {
     const char *name;
@@ -119,6 +129,7 @@ static const struct {
     {"rekusoyen_line_as_cstring", line_as_cstring, REKUSOYEN_LINE_STACK_SIZE},
     {"rekusoyen_line_equal", line_equal, REKUSOYEN_LINE_STACK_SIZE},
     {"rekusoyen_line_load", line_load, REKUSOYEN_LINE_STACK_SIZE},
+    {"rekusoyen_line_words", line_words, REKUSOYEN_LINE_STACK_SIZE},
 };
 
 #define CALLS (sizeof calls / sizeof calls[0])
@@ -155,6 +166,7 @@ void test_stack(void)
     pthread_attr_t attributes;
     pthread_t thread;
     elf = small_elf();
+    memset(quotes, '"', sizeof quotes);
     bzimage = bz_image(1, 16, "k", 1);
     const long least = sysconf(_SC_THREAD_STACK_MIN);
     const size_t size = least > (long)SMALL_STACK ? (size_t)least : SMALL_STACK;

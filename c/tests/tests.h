@@ -10,6 +10,7 @@ void test_line_calls(void);
 void test_line_bytes(void);
 void test_line_output(void);
 void test_maps(void);
+void test_line_words(void);
 void test_long_slices(void);
 void test_empty_slices(void);
 void test_stack(void);

@@ -39,6 +39,9 @@ pub const BZIMAGE_LOAD_OUT: usize = 2;
 /// How many ranges a map of guest memory has at most.
 pub const MAP_RANGES: usize = 16;
 
+/// How many places the list for a count of words has.
+pub const LINE_WORDS_OUT: usize = 1;
+
 extern "C" {
     /// Loads an ELF image. `map` has the ranges of guest memory, start and size in turn. `out` has 6 places: the load address, the kernel's end, PVH (0 ignored, 1 not present, 2 present), its address,
     /// and the place and the size of the descriptor that it was read from.
@@ -227,5 +230,24 @@ extern "C" {
         address: u64,
         line: *const u8,
         line_len: usize,
+    ) -> u32;
+
+    /// Reads the words of a line without its zero into three lists: where each starts, the place after its last byte, and where its key ends.
+    /// `out` has one place, for how many words there are, or for the place of a quote that none closes.
+    ///
+    /// # Safety
+    ///
+    /// As of [`rekusoyen_elf_load`].
+    pub fn rekusoyen_line_words(
+        text: *const u8,
+        text_len: usize,
+        starts: *mut u64,
+        starts_len: usize,
+        ends: *mut u64,
+        ends_len: usize,
+        splits: *mut u64,
+        splits_len: usize,
+        out: *mut u64,
+        out_len: usize,
     ) -> u32;
 }

@@ -53,6 +53,7 @@ mod lent;
 pub mod loader;
 mod map;
 mod refusal;
+pub mod words;
 
 pub use address::{GuestAddress, GuestUsize};
 pub use loader::bootparam;

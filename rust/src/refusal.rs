@@ -99,6 +99,10 @@ refusals! {
     BadList = 61,
     /// A lent output has no room, or another size than it must have.
     NoRoom = 62,
+    /// A quote of the line is not closed.
+    UnclosedQuote = 71,
+    /// A list has fewer places than the line has words.
+    TooFewPlaces = 72,
     /// A map is not good: its ranges must be 16 at most, not empty, rising, not touching, and within guest memory.
     BadMap = 77,
 }

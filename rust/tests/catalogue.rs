@@ -114,6 +114,10 @@ fn sizes_flags_and_codes_are_those_of_the_header() {
             "REKUSOYEN_BZIMAGE_LOAD_OUT",
             entry::BZIMAGE_LOAD_OUT.to_string(),
         ),
+        (
+            "REKUSOYEN_LINE_WORDS_OUT",
+            entry::LINE_WORDS_OUT.to_string(),
+        ),
     ];
     for (name, number) in numbers {
         assert_eq!(defined(name), number, "{name}");

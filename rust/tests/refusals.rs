@@ -7,11 +7,13 @@ use rekusoyen::cmdline::{self, Cmdline};
 use rekusoyen::loader::{
     self, bzimage, elf, load_cmdline_into, load_cmdline_into_map, BzImage, Elf,
 };
+use rekusoyen::words::words;
 use rekusoyen::{GuestAddress, Map, Refusal};
 use vm_memory::MmapRegion;
 
-/// The safe functions lend lists that rise and outputs of the right size, so that nobody can be refused for them.
-const NEVER: [Refusal; 2] = [Refusal::BadList, Refusal::NoRoom];
+/// The safe functions lend lists that rise, outputs of the right size and as many places as a line can have words, so that nobody can be
+/// refused for them.
+const NEVER: [Refusal; 3] = [Refusal::BadList, Refusal::NoRoom, Refusal::TooFewPlaces];
 
 #[test]
 fn every_refusal_is_reached_and_has_its_number() {
@@ -22,6 +24,7 @@ fn every_refusal_is_reached_and_has_its_number() {
         of_lines(),
         of_maps(),
         of_long(),
+        of_words(),
     ]
     .concat();
     for (refusal, number) in &reached {
@@ -68,6 +71,11 @@ fn by_load<T>(answer: loader::Result<T>) -> Option<u32> {
 
 fn by_line<T>(answer: cmdline::Result<T>) -> Option<u32> {
     Some(answer.err()?.number())
+}
+
+fn of_words() -> Reached {
+    let number = words(b"\"").err().map(|error| error.number());
+    vec![(Refusal::UnclosedQuote, number)]
 }
 
 fn of_elf() -> Reached {

@@ -1,9 +1,10 @@
 //! Asks a program that has the second program's functions. It stands over the second program itself and over the copy with planted
 //! mistakes: the module above names which as `program`.
 
-use super::program::{bzimage, elf, line::Line, loading, note, Refusal, Rules};
+use super::program::{bzimage, elf, line::Line, loading, note, words, Refusal, Rules};
 use crate::answer::{Answer, BzimageLoaded, CallAnswer, ElfLoaded, Note, NoteWalked, Pvh};
-use crate::question::{Call, Load, Question, Walk};
+use crate::lists::Lists;
+use crate::question::{Call, Load, Question, Walk, Words};
 
 /// What an untouched byte of a lent output holds.
 const UNTOUCHED: u8 = 0xe7;
@@ -28,7 +29,15 @@ pub fn answer_by(question: &Question, rules: second::Rules) -> Answer {
                 guest,
             }
         }
+        Question::Words(asked) => answer_words(asked),
     }
+}
+
+fn answer_words(asked: &Words) -> Answer {
+    let mut lists = Lists::of(asked.places);
+    let [starts, ends, splits] = &mut lists.0;
+    let told = words::read(&asked.text, starts, ends, splits);
+    lists.read(told.map_err(|(refusal, place)| (refusal.number(), place.map(|place| place as u64))))
 }
 
 fn answer_elf(load: &Load, map: &[u64], rules: Rules) -> Answer {

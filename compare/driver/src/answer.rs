@@ -73,6 +73,16 @@ pub enum Answer {
         outcome: Result<(), u8>,
         guest: Vec<u8>,
     },
+    Words(WordsRead),
+}
+
+/// What reading the words of a line left.
+#[derive(Clone, Debug, PartialEq, Eq)]
+pub struct WordsRead {
+    /// The start, end and split of each word; or the refusal, and of an unclosed quote its place.
+    pub outcome: Result<Vec<[u64; 3]>, (u8, Option<u64>)>,
+    /// Whether any other place of the lists was changed.
+    pub spoilt: bool,
 }
 
 impl Answer {
@@ -120,6 +130,7 @@ impl Answer {
                 }
                 put_guest(&mut line, before, guest);
             }
+            Answer::Words(read) => put_words(&mut line, read),
         }
         line
     }
@@ -135,6 +146,9 @@ impl Answer {
             Answer::LineLoad { calls, outcome, .. } => {
                 numbers.extend(calls.iter().filter_map(refusal));
                 numbers.extend(outcome.err());
+            }
+            Answer::Words(read) => {
+                numbers.extend(read.outcome.as_ref().err().map(|(number, _)| *number));
             }
         }
         numbers
@@ -166,6 +180,25 @@ fn put_calls(line: &mut String, calls: &[CallAnswer]) {
             CallAnswer::Equal(false) => " unequal".into(),
             CallAnswer::Unasked => " ?".into(),
         };
+    }
+}
+
+fn put_words(line: &mut String, read: &WordsRead) {
+    *line += "words";
+    match &read.outcome {
+        Ok(words) => {
+            *line += &format!(" ok {}", words.len());
+            for [start, end, split] in words {
+                *line += &format!(" {start} {end} {split}");
+            }
+        }
+        Err((number, place)) => {
+            *line += &format!(" refused {number}");
+            *line += &place.map_or(String::new(), |place| format!(" {place}"));
+        }
+    }
+    if read.spoilt {
+        *line += " spoilt";
     }
 }
 
@@ -230,6 +263,18 @@ mod tests {
         };
         assert_eq!(answer.line(&[]), "bzimage refused 24 guest 0 0 0 0 0");
         assert_eq!(answer.numbers(), [24]);
+    }
+
+    #[test]
+    fn words_are_told_with_their_places() {
+        let told = |outcome, spoilt| Answer::Words(WordsRead { outcome, spoilt });
+        let words = told(Ok(vec![[0, 1, 1], [2, 5, 3]]), false);
+        assert_eq!(words.line(&[]), "words ok 2 0 1 1 2 5 3");
+        let unclosed = told(Err((71, Some(4))), false);
+        assert_eq!(unclosed.line(&[]), "words refused 71 4");
+        assert_eq!(unclosed.numbers(), [71]);
+        let few = told(Err((72, None)), true);
+        assert_eq!(few.line(&[]), "words refused 72 spoilt");
     }
 
     #[test]

@@ -2,7 +2,7 @@
 
 use crate::examples::{put, pvh_note, small_bzimage, small_elf};
 use crate::map_cases;
-use crate::question::{Call, Load, Question, Walk};
+use crate::question::{Call, Load, Question, Walk, Words};
 
 /// A question, and the answer to it in the short form of the test below.
 pub type Case = (Question, &'static str);
@@ -22,6 +22,7 @@ pub fn all() -> Vec<Case> {
         lists_and_devices(),
         equal(),
         map_cases::all(),
+        words(),
     ]
     .concat()
 }
@@ -609,6 +610,32 @@ fn equal() -> Vec<Case> {
         both(&text("a\0"), &text("\0b"), "line ok ok ok equal"),
         both(&text("a\0"), &text(" -- y"), "line ok ok ok unequal"),
         both(&[new(1)], &[new(2)], "line ok ok ok equal"),
+    ]
+}
+
+/// Lines read back into lists of so many places.
+fn words() -> Vec<Case> {
+    let read = |text: &str, places, told| {
+        let text = text.into();
+        (Question::Words(Words { places, text }), told)
+    };
+    vec![
+        read("", [0; 3], "words ok 0"),
+        read("   ", [1; 3], "words ok 0"),
+        read("quiet  root=/dev/vda ", [3; 3], "words ok 2 0 5 5 7 20 11"),
+        read("a=b=c =", [2; 3], "words ok 2 0 5 1 6 7 6"),
+        read("k=\"v w\" x", [2; 3], "words ok 2 0 7 1 8 9 9"),
+        read("\"a=b\"=c", [1; 3], "words ok 1 0 7 5"),
+        read("\"\"", [1; 3], "words ok 1 0 2 2"),
+        read("a\tb\0c", [1; 3], "words ok 1 0 5 5"),
+        // an unclosed quote is asked before the places
+        read("a \"b c", [0; 3], "words refused 71 2"),
+        read("\"a\" \"", [9; 3], "words refused 71 4"),
+        // each list must have a place for each word
+        read("a b", [1, 2, 2], "words refused 72"),
+        read("a b", [2, 1, 2], "words refused 72"),
+        read("a b", [2, 2, 1], "words refused 72"),
+        read("a b", [2, 3, 4], "words ok 2 0 1 1 2 3 3"),
     ]
 }
 

@@ -1,7 +1,7 @@
 //! Questions read back from bytes: what a program that answers them does first.
 
-use crate::encode::LARGEST;
-use crate::question::{Call, LineLoad, Load, Map, Options, Question, Walk};
+use crate::encode::{LARGEST, MOST_PLACES};
+use crate::question::{Call, LineLoad, Load, Map, Options, Question, Walk, Words};
 use std::io::{self, Read};
 
 const BODY_LIMIT: usize = 2_162_688;
@@ -77,6 +77,7 @@ pub fn question(body: &[u8]) -> Parsed<Question> {
         6 => Question::Elf(load(map(&mut rest)?, rest)?),
         7 => Question::Bzimage(load(map(&mut rest)?, rest)?),
         8 => Question::LineLoad(line_load(map(&mut rest)?, rest)?),
+        9 => Question::Words(words(rest)?),
         _ => return Err("unknown kind"),
     })
 }
@@ -123,6 +124,18 @@ fn load(map: Map, mut rest: Rest) -> Parsed<Load> {
         return Err("bytes left over");
     }
     Ok(load)
+}
+
+fn words(mut rest: Rest) -> Parsed<Words> {
+    let mut places = [0; 3];
+    for count in &mut places {
+        *count = rest.number::<4>()? as u32;
+        if *count > MOST_PLACES {
+            return Err("too many places");
+        }
+    }
+    let text = rest.0.to_vec();
+    Ok(Words { places, text })
 }
 
 fn calls(mut rest: Rest) -> Parsed<Vec<Call>> {

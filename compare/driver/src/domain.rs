@@ -17,6 +17,8 @@ pub fn asks_crate(question: &Question) -> bool {
         Question::Bzimage(load) => has_regions(question) && !kernel_is_empty(load),
         Question::Line(calls) => !has_high_bytes(calls),
         Question::LineLoad(load) => has_regions(question) && !has_high_bytes(&load.calls),
+        // the crate does not read a line back
+        Question::Words(_) => false,
     }
 }
 

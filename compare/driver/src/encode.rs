@@ -5,12 +5,16 @@ use crate::question::{Call, Load, Map, Question};
 /// The most bytes of an image or of a guest that the form takes.
 pub const LARGEST: usize = 1 << 20;
 
+/// The most places of a list for words that the form takes.
+pub const MOST_PLACES: u32 = 8192;
+
 /// Whether the form takes the question.
 pub fn fits(question: &Question) -> bool {
     let image = match question {
         Question::Elf(load) | Question::Bzimage(load) => &load.image,
         Question::Note(walk) => &walk.image,
         Question::Line(_) | Question::LineLoad(_) => return question.guest().len() <= LARGEST,
+        Question::Words(words) => return words.places.iter().all(|count| *count <= MOST_PLACES),
     };
     image.len() <= LARGEST && question.guest().len() <= LARGEST
 }
@@ -44,6 +48,13 @@ fn body(question: &Question) -> Vec<u8> {
             put_length4(&mut out, &load.guest);
             out.extend(&load.guest);
             put_calls(&mut out, &load.calls);
+        }
+        Question::Words(words) => {
+            out.push(9);
+            for count in words.places {
+                out.extend(count.to_le_bytes());
+            }
+            out.extend(&words.text);
         }
     }
     out

@@ -13,6 +13,7 @@ mod encode;
 pub mod examples;
 mod generate;
 mod images;
+pub mod lists;
 mod malformed;
 mod map_cases;
 mod over_planted;

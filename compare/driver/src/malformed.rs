@@ -25,6 +25,11 @@ pub fn all() -> Vec<(Vec<u8>, &'static str)> {
         (vec![6, 0], lengths),
         (over_nothing(7), lengths),
         (over_nothing(8), "malformed: the length of the guest"),
+        (vec![9; 12], "malformed: the places of the lists"),
+        (
+            vec![9, 1, 32, 0, 0, 0, 0, 0, 0, 0, 0, 0, 0],
+            "malformed: the places of the lists",
+        ),
     ]
     .into_iter()
     .map(|(body, line)| (framed(&body), line))

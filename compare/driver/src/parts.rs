@@ -15,7 +15,7 @@ pub fn parts(question: &Question) -> Vec<Part> {
         }
         Question::Bzimage(load) => kernel(load).into_iter().collect(),
         Question::LineLoad(load) => written_line(load).into_iter().collect(),
-        Question::Note(_) | Question::Line(_) => vec![],
+        Question::Note(_) | Question::Line(_) | Question::Words(_) => vec![],
     }
 }
 

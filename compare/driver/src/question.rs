@@ -45,6 +45,14 @@ pub enum Question {
     Bzimage(Load),
     Line(Vec<Call>),
     LineLoad(LineLoad),
+    Words(Words),
+}
+
+/// A line to read the words of, and how many places each of the three lists has.
+#[derive(Clone, Debug, Default, PartialEq, Eq)]
+pub struct Words {
+    pub places: [u32; 3],
+    pub text: Vec<u8>,
 }
 
 /// One call on the line that is carried from call to call.
@@ -89,15 +97,20 @@ pub enum Area {
     Bzimage,
     Line,
     LineLoad,
+    Words,
 }
 
 impl Area {
-    pub const ALL: [Area; 5] = [
+    /// How many there are.
+    pub const COUNT: usize = 6;
+
+    pub const ALL: [Area; Area::COUNT] = [
         Area::Elf,
         Area::Note,
         Area::Bzimage,
         Area::Line,
         Area::LineLoad,
+        Area::Words,
     ];
 
     pub fn name(self) -> &'static str {
@@ -107,6 +120,7 @@ impl Area {
             Area::Bzimage => "bzimage",
             Area::Line => "line",
             Area::LineLoad => "load",
+            Area::Words => "words",
         }
     }
 
@@ -123,6 +137,7 @@ impl Question {
             Question::Bzimage(_) => Area::Bzimage,
             Question::Line(_) => Area::Line,
             Question::LineLoad(_) => Area::LineLoad,
+            Question::Words(_) => Area::Words,
         }
     }
 
@@ -131,7 +146,7 @@ impl Question {
         match self {
             Question::Elf(load) | Question::Bzimage(load) => &load.guest,
             Question::LineLoad(load) => &load.guest,
-            Question::Note(_) | Question::Line(_) => &[],
+            Question::Note(_) | Question::Line(_) | Question::Words(_) => &[],
         }
     }
 
@@ -140,7 +155,7 @@ impl Question {
         match self {
             Question::Elf(load) | Question::Bzimage(load) => load.map.as_deref(),
             Question::LineLoad(load) => load.map.as_deref(),
-            Question::Note(_) | Question::Line(_) => None,
+            Question::Note(_) | Question::Line(_) | Question::Words(_) => None,
         }
     }
 
@@ -155,7 +170,7 @@ impl Question {
         match &mut self {
             Question::Elf(load) | Question::Bzimage(load) => load.map = map,
             Question::LineLoad(load) => load.map = map,
-            Question::Note(_) | Question::Line(_) => {}
+            Question::Note(_) | Question::Line(_) | Question::Words(_) => {}
         }
         self
     }

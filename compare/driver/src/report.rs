@@ -12,9 +12,9 @@ use crate::shrink::shrink;
 const SHOWN: usize = 3;
 
 /// Every number of the rules that questions of ordinary sizes can reach; 60 needs a slice of more than 2^40 bytes.
-const REACHABLE: [u8; 34] = [
+const REACHABLE: [u8; 36] = [
     1, 2, 3, 4, 5, 6, 7, 8, 9, 10, 11, 12, 13, 14, 21, 22, 23, 24, 31, 32, 41, 42, 43, 44, 45, 46,
-    47, 48, 49, 50, 51, 61, 62, 77,
+    47, 48, 49, 50, 51, 61, 62, 71, 72, 77,
 ];
 
 /// Prints the differences, each made small, and the last line; answers whether there was none.
@@ -77,7 +77,7 @@ fn last_line(outcome: &Outcome, asked: &[Box<dyn Backend>]) -> String {
     )
 }
 
-fn counts(counts: &[u64; 5]) -> String {
+fn counts(counts: &[u64; Area::COUNT]) -> String {
     let named = Area::ALL.into_iter().zip(counts);
     let words = named.map(|(area, count)| format!("{} {count}", area.name()));
     words.collect::<Vec<_>>().join(", ")

@@ -24,7 +24,7 @@ pub const EXHAUSTIVE_PARTS: usize = 16;
 pub struct Plan {
     pub seed: u64,
     /// How many random questions for each area, in the order of `Area::ALL`.
-    pub random: [u64; 5],
+    pub random: [u64; Area::COUNT],
     /// How many parts of the exhaustive questions are asked, too.
     pub exhaustive: usize,
     pub threads: usize,
@@ -42,13 +42,13 @@ pub struct Difference {
 
 #[derive(Default)]
 pub struct Outcome {
-    pub cases: [u64; 5],
+    pub cases: [u64; Area::COUNT],
     /// How many of them are over a map.
     pub over_maps: u64,
     /// How often each refusal was the wanted answer.
     pub numbers: BTreeMap<u8, u64>,
     /// How many questions of each area each backend was compared on; the others lay outside its domain.
-    pub compared: Vec<[u64; 5]>,
+    pub compared: Vec<[u64; Area::COUNT]>,
     /// How many of these are over a map.
     pub compared_over_maps: Vec<u64>,
     /// How many questions the proved code must answer otherwise than the published crate, by the departures that explain it.
@@ -126,7 +126,7 @@ fn run_part(
     backends: &mut [Box<dyn Backend>],
 ) -> Outcome {
     let mut outcome = Outcome {
-        compared: vec![[0; 5]; backends.len()],
+        compared: vec![[0; Area::COUNT]; backends.len()],
         compared_over_maps: vec![0; backends.len()],
         ..Outcome::default()
     };
@@ -217,7 +217,7 @@ impl Outcome {
         for (number, count) in other.numbers {
             *self.numbers.entry(number).or_default() += count;
         }
-        self.compared.resize(other.compared.len(), [0; 5]);
+        self.compared.resize(other.compared.len(), [0; Area::COUNT]);
         for (sum, compared) in self.compared.iter_mut().zip(&other.compared) {
             add_counts(sum, compared);
         }
@@ -234,7 +234,7 @@ impl Outcome {
     }
 }
 
-fn add_counts(sums: &mut [u64; 5], counts: &[u64; 5]) {
+fn add_counts(sums: &mut [u64; Area::COUNT], counts: &[u64; Area::COUNT]) {
     for (sum, count) in sums.iter_mut().zip(counts) {
         *sum += count;
     }
@@ -298,7 +298,7 @@ mod tests {
     fn outcome(seed: u64, threads: usize) -> Outcome {
         let plan = Plan {
             seed,
-            random: [300, 300, 20, 9000, 300],
+            random: [300, 300, 20, 9000, 300, 300],
             exhaustive: 0,
             threads,
             stop_at_difference: false,
@@ -312,7 +312,7 @@ mod tests {
     #[test]
     fn one_seed_gives_one_result_on_any_number_of_threads() {
         let first = outcome(5, 1);
-        assert_eq!(first.cases, [300, 300, 20, 9000, 300]);
+        assert_eq!(first.cases, [300, 300, 20, 9000, 300, 300]);
         assert_eq!(first.numbers, outcome(5, 3).numbers);
         assert_ne!(first.numbers, outcome(6, 1).numbers);
         assert_eq!(first.over_maps, 100 + 7 + 100);

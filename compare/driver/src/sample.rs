@@ -21,12 +21,13 @@ use std::path::Path;
 const SEED: u64 = 1;
 
 /// How many bytes the random questions of an area and their answers may take.
-const BUDGET: [(Area, usize); 5] = [
+const BUDGET: [(Area, usize); Area::COUNT] = [
     (Area::Elf, 150_000),
     (Area::Note, 86_500),
     (Area::Bzimage, 90_000),
     (Area::Line, 140_000),
     (Area::LineLoad, 60_000),
+    (Area::Words, 30_000),
 ];
 
 /// And those of an area over maps, which come behind all others.
@@ -201,6 +202,7 @@ mod tests {
             .chain(31..=32)
             .chain(41..=51)
             .chain(61..=62)
+            .chain(71..=72)
             .chain([77])
             .collect();
         assert_eq!(numbers, wanted);

@@ -21,6 +21,11 @@ pub fn show(question: &Question) -> String {
             show_calls(&load.calls),
             show_bytes("guest", &load.guest)
         ),
+        Question::Words(words) => format!(
+            "the words of {}, into lists of {:?} places\n",
+            text(&words.text),
+            words.places
+        ),
     }
 }
 

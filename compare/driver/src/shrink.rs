@@ -1,6 +1,6 @@
 //! Makes a differing question as small as it can be while it still differs.
 
-use crate::question::{Call, Load, Map, Question};
+use crate::question::{Call, Load, Map, Question, Words};
 
 /// How many questions are asked at most in search of a smaller one.
 const PATIENCE: usize = 20_000;
@@ -68,6 +68,21 @@ fn smaller(question: &Question) -> Vec<Question> {
                 all.push(smaller);
             }
             all.into_iter().map(Question::LineLoad).collect()
+        }
+        Question::Words(words) => {
+            let texts = smaller_texts(&words.text).map(|text| Words {
+                text,
+                places: words.places,
+            });
+            let mut all: Vec<Words> = texts.collect();
+            for list in 0..3 {
+                for count in smaller_u32(words.places[list]) {
+                    let mut smaller = words.clone();
+                    smaller.places[list] = count;
+                    all.push(smaller);
+                }
+            }
+            all.into_iter().map(Question::Words).collect()
         }
     }
 }
@@ -259,19 +274,27 @@ fn smaller_u32(number: u32) -> impl Iterator<Item = u32> {
 
 /// A text without each of its bytes, and with each byte made plain.
 fn smaller_texts(text: &[u8]) -> impl Iterator<Item = Vec<u8>> + '_ {
-    let without = (0..text.len()).map(|place| {
+    let length = text.len();
+    // of a long text only runs go, the longest first
+    let sizes = [2, 4, 8, 16, 32, 64].map(|part| length / part);
+    let runs = sizes.into_iter().filter(|size| *size > 0);
+    let without_run = runs.flat_map(move |size| {
+        (0..=length - size)
+            .step_by(size)
+            .map(move |start| [&text[..start], &text[start + size..]].concat())
+    });
+    let places = if length > 64 { 0..0 } else { 0..length };
+    let without = places.clone().map(|place| {
         let mut shorter = text.to_vec();
         shorter.remove(place);
         shorter
     });
-    let plainer = (0..text.len())
-        .filter(|place| text[*place] != b'a')
-        .map(|place| {
-            let mut plainer = text.to_vec();
-            plainer[place] = b'a';
-            plainer
-        });
-    without.chain(plainer)
+    let plainer = places.filter(|place| text[*place] != b'a').map(|place| {
+        let mut plainer = text.to_vec();
+        plainer[place] = b'a';
+        plainer
+    });
+    without_run.chain(without).chain(plainer)
 }
 
 #[cfg(test)]

@@ -9,6 +9,7 @@ mod plain_line;
 mod ranges;
 mod report;
 mod rounds;
+mod words;
 mod works;
 
 use contestants::{Contestant, Library, Plain};
@@ -27,10 +28,24 @@ pub fn run(published: Option<Box<dyn Contestant>>) {
             works::check(&works, &contestants);
             report::print(&works, &contestants);
             ranges::print();
+            words::print();
         }
         [word, headers, ranges, times] if word == "ranges" => {
             let number = |word: &String| word.parse::<usize>().expect("a number");
             ranges::repeat(number(headers), number(ranges), number(times) as u32);
+        }
+        [name, line, times] if words::lines().iter().any(|one| one.name == line) => {
+            let reader = words::READERS.iter().find(|(reader, _)| reader == name);
+            let (_, reader) = reader.expect("plain or library");
+            let lines = words::lines();
+            let line = lines.iter().find(|one| one.name == line);
+            let times = times.parse().expect("a number of times");
+            words::repeat(
+                *reader,
+                line.expect("a line's name"),
+                &mut words::Lists::new(),
+                times,
+            );
         }
         [name, work, times] => {
             let contestant = contestants.iter().find(|one| one.name() == name);

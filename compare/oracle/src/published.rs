@@ -54,6 +54,7 @@ impl Published {
             Question::Bzimage(load) => self.bzimage(load),
             Question::Line(calls) => Answer::Line(lines::answer_calls(calls).0),
             Question::LineLoad(load) => self.line_load(load),
+            Question::Words(_) => unreachable!("the crate is not asked for words"),
         }
     }
 

@@ -2,6 +2,7 @@
 
 mod lines;
 mod loads;
+mod words;
 
 use driver::backend::{Backend, Reply};
 use driver::question::Question;
@@ -21,6 +22,7 @@ impl Backend for Proved {
             Question::Bzimage(load) => loads::bzimage(load, &map),
             Question::Line(calls) => lines::calls(calls),
             Question::LineLoad(load) => lines::load(load, &map),
+            Question::Words(asked) => words::read(asked),
         })
     }
 }

@@ -16,6 +16,7 @@ pub mod refusal;
 pub mod rules;
 pub mod separator;
 pub mod text;
+pub mod words;
 
 pub use refusal::Refusal;
 pub use rules::{Departure, Rules};

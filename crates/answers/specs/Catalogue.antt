@@ -38,4 +38,6 @@ numberOf refusal.NullTerminator = 51
 numberOf refusal.SliceTooLong = 60
 numberOf refusal.BadList = 61
 numberOf refusal.NoRoom = 62
+numberOf refusal.UnclosedQuote = 71
+numberOf refusal.TooFewPlaces = 72
 numberOf refusal.BadMap = 77

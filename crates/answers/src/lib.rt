@@ -45,6 +45,10 @@ pub enum Refusal {
     SliceTooLong,
     BadList,
     NoRoom,
+    // the words of a line
+    UnclosedQuote,
+    TooFewPlaces,
+    // guest memory
     BadMap,
 }
 
@@ -87,6 +91,8 @@ pub fn number(refusal: Refusal) -> u32
         Refusal::SliceTooLong => 60,
         Refusal::BadList => 61,
         Refusal::NoRoom => 62,
+        Refusal::UnclosedQuote => 71,
+        Refusal::TooFewPlaces => 72,
         Refusal::BadMap => 77,
     }
 }

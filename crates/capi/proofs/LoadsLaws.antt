@@ -25,11 +25,11 @@ use Rattle.bzimage.specs.SetupHeader.{headerSize}
 use Rattle.capi.specs.Loads.{headerBytes, Tells, BzImageTells, ElfLoads, ElfNotes, BzImageLoads, bzImageSized}
 
 -- the first of two where the test holds, and the second where it fails
-picks : {A : Type 0} {b : Bool} {a x : A} (y : A) → b ≡ true → a ≡ x → a ≡ pick b x y
+pub picks : {A : Type 0} {b : Bool} {a x : A} (y : A) → b ≡ true → a ≡ x → a ≡ pick b x y
 unfolding pick
 picks y h e = rw h e
 
-passes : {A : Type 0} {b : Bool} {a y : A} (x : A) → b ≡ false → a ≡ y → a ≡ pick b x y
+pub passes : {A : Type 0} {b : Bool} {a y : A} (x : A) → b ≡ false → a ≡ y → a ≡ pick b x y
 unfolding pick
 passes x h e = rw h e
 

@@ -26,6 +26,8 @@ use Rattle.capi.proofs.rekusoyen_line_as_cstring.Kinds as line-as-cstri
 use Rattle.capi.proofs.rekusoyen_line_as_cstring.Reads as line-as-cstring-reads
 use Rattle.capi.proofs.rekusoyen_line_equal.Kinds as line-equal-kinds
 use Rattle.capi.proofs.rekusoyen_line_equal.Reads as line-equal-reads
+use Rattle.capi.proofs.line_words.rekusoyen_line_words.Kinds as line-words-kinds
+use Rattle.capi.proofs.line_words.rekusoyen_line_words.Reads as line-words-reads
 use Rattle.capi.proofs.rekusoyen_line_load.Kinds as line-load-kinds
 use Rattle.capi.proofs.rekusoyen_line_load.Reads as line-load-reads
 
@@ -76,3 +78,10 @@ line-equal-one κs a z z' ws ws' p q = (meet (p .answer) (q .answer), over (over
 
 pub line-load-one : OneOutcome 3 line-load-kinds.ps line-load-kinds.r line-load-reads.Post
 line-load-one κs a z z' ws ws' p q = (meet (p .answer) (q .answer), first (meet (p .memory) (q .memory)))
+
+pub line-words-one : OneOutcome 5 line-words-kinds.ps line-words-kinds.r line-words-reads.Post
+line-words-one κs a z z' ws ws' p q = (
+  meet (p .answer) (q .answer),
+  over (both (meet (p .written .starts-at) (q .written .starts-at))
+      (both (meet (p .written .ends-at) (q .written .ends-at)) (both (meet (p .written .splits-at) (q .written .splits-at)) (first (meet (p .told) (q .told)))))),
+)

@@ -19,6 +19,7 @@ use slugs::trimming;
 
 mod bzimage_told;
 mod elf_told;
+pub mod line_words;
 mod lines;
 mod options;
 

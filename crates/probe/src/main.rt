@@ -3,6 +3,7 @@ use fields::copying;
 use fields::numbers;
 use libc::STDIN_FILENO;
 
+mod line_words;
 mod lines;
 mod loads;
 mod mapped;
@@ -30,6 +31,7 @@ fn answer(body: &[u8], guest: &mut [u8]) {
         5 => lines::loading(body, guest),
         6 | 7 => loads::load_with_map(body, guest),
         8 => lines::loading_with_map(body, guest),
+        9 => line_words::read(body),
         _ => telling::malformed(b"no such kind"),
     }
 }

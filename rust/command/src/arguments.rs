@@ -10,6 +10,7 @@ use crate::sizes;
 pub const HELP: &str = "\
 usage: rekusoyen                         load a small built-in image
        rekusoyen load [OPTIONS] < IMAGE  load an image from standard input
+       rekusoyen words < LINE            show the words of a command line
 
 Loads a kernel into guest memory, as a monitor would before it starts it, and
 prints where the kernel is entered (load), where it ends (end) and its PVH
@@ -36,6 +37,7 @@ pub enum Request {
     Help,
     Version,
     BuiltIn,
+    Words,
     Load(Load),
 }
 
@@ -107,12 +109,14 @@ pub fn read(name: &str, words: Vec<OsString>) -> Result<Request, lexopt::Error> 
     let mut load = Load::default();
     let mut typed = Typed(Vec::new());
     let mut asked = false;
+    let mut words = false;
     let mut file = None;
     while let Some(word) = parser.next()? {
         match word {
             Long("help") | Short('h') => return Ok(Request::Help),
             Long("version") | Short('V') => return Ok(Request::Version),
-            Value(word) if !asked && word == "load" => asked = true,
+            Value(word) if !asked && !words && word == "load" => asked = true,
+            Value(word) if !asked && !words && word == "words" => words = true,
             Value(word) if file.is_none() => file = Some(word),
             Long("guest") => load.guest = typed.number("guest", parser)?,
             Long("offset") => load.offset = typed.address("offset", parser)?,
@@ -126,6 +130,15 @@ pub fn read(name: &str, words: Vec<OsString>) -> Result<Request, lexopt::Error> 
             }
             _ => return Err(word.unexpected()),
         }
+    }
+    if words {
+        return match (typed.0.is_empty(), file) {
+            (true, None) => Ok(Request::Words),
+            _ => Err(format!(
+                "the line comes by standard input, and nothing else is asked: {name} words < LINE"
+            )
+            .into()),
+        };
     }
     if let Some(file) = file {
         return Err(by_standard_input(name, &typed.0, &file.to_string_lossy()).into());
@@ -198,6 +211,7 @@ mod tests {
         assert_eq!(read_words("").unwrap(), Request::BuiltIn);
         assert_eq!(read_words("--help load").unwrap(), Request::Help);
         assert_eq!(read_words("-V").unwrap(), Request::Version);
+        assert_eq!(read_words("words").unwrap(), Request::Words);
     }
 
     #[test]
@@ -220,6 +234,8 @@ mod tests {
             ("load --format pe", "'pe' is no format"),
             ("load --at 5", "there is no --cmdline"),
             ("--verbose", "belong to a load"),
+            ("words line", "./rekusoyen words < LINE"),
+            ("words --verbose", "./rekusoyen words < LINE"),
         ] {
             let error = read_words(words).unwrap_err().to_string();
             assert!(error.contains(told), "{words}: {error}");

@@ -8,6 +8,7 @@ mod load;
 mod notes;
 mod report;
 mod sizes;
+mod words;
 
 use std::io::{self, ErrorKind, IsTerminal, Write};
 use std::process::ExitCode;
@@ -31,6 +32,7 @@ fn main() -> ExitCode {
             env!("CARGO_PKG_VERSION")
         ))),
         Ok(Request::BuiltIn) => Ok(built_in()),
+        Ok(Request::Words) => words_of_input(&name),
         Ok(Request::Load(asked)) => from_input(&name, &asked),
         Err(error) => Err(Failure::Usage(error.to_string())),
     };
@@ -90,6 +92,21 @@ fn print(text: &str) -> ExitCode {
             ));
             ExitCode::from(WRONG_USAGE)
         }
+    }
+}
+
+/// The words of the line that standard input has.
+fn words_of_input(name: &str) -> Result<Answer, Failure> {
+    if io::stdin().is_terminal() {
+        return Err(Failure::Usage(format!(
+            "the line comes by standard input: {name} words < LINE"
+        )));
+    }
+    let line = input::image(io::stdin().lock(), input::LONGEST)
+        .map_err(|error| Failure::Usage(format!("standard input cannot be read: {error}")))?;
+    match words::shown(&line) {
+        Ok(result) => Ok(Answer::of(result)),
+        Err(told) => Err(Failure::Refused(told)),
     }
 }
 

@@ -556,3 +556,23 @@ fn a_closed_pipe_ends_quietly() {
         );
     }
 }
+
+#[test]
+fn the_words_of_a_line_are_shown() {
+    let line = b"quiet  root=/dev/vda motd=\"good morning\"\n";
+    accepted(
+        &["words"],
+        line,
+        "0 5 key quiet\n\
+         7 20 key root value /dev/vda\n\
+         21 40 key motd value \"good morning\"\n",
+    );
+    accepted(&["words"], b"", "");
+    refused(
+        &["words"],
+        b"quiet motd=\"good",
+        "refused 71 UnclosedQuote\n\
+         the quote at 11 is not closed\n\
+         try: a second quote where the value ends\n",
+    );
+}

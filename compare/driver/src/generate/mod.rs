@@ -9,6 +9,7 @@ mod load;
 mod maps;
 mod note;
 mod text;
+mod words;
 
 pub use exhaustive::exhaustive;
 pub use maps::over_map;
@@ -24,6 +25,7 @@ pub fn random(area: Area, rng: &mut Rng) -> Question {
         Area::Bzimage => Question::Bzimage(bzimage::question(rng)),
         Area::Line => Question::Line(line::calls(rng)),
         Area::LineLoad => Question::LineLoad(load::question(rng)),
+        Area::Words => Question::Words(words::question(rng)),
     }
 }
 

@@ -14,7 +14,7 @@ pub fn line() -> impl Iterator<Item = Vec<Call>> {
 }
 
 /// Every text over the alphabet of at most `longest` bytes.
-fn texts(alphabet: &'static [u8], longest: u32) -> impl Iterator<Item = Vec<u8>> + Clone {
+pub fn texts(alphabet: &'static [u8], longest: u32) -> impl Iterator<Item = Vec<u8>> + Clone {
     let count = alphabet.len();
     (0..=longest).flat_map(move |length| {
         (0..count.pow(length)).map(move |number| {

@@ -5,6 +5,7 @@ mod image;
 mod line;
 mod maps;
 mod note;
+mod words;
 
 use crate::generate::headers;
 use crate::question::{Area, Question};
@@ -24,5 +25,6 @@ fn over_whole_slices(area: Area) -> Box<dyn Iterator<Item = Question>> {
         Area::Bzimage => Box::new(image::bzimage().map(Question::Bzimage)),
         Area::Line => Box::new(line::line().map(Question::Line)),
         Area::LineLoad => Box::new(line::line_load().map(Question::LineLoad)),
+        Area::Words => Box::new(words::words().map(Question::Words)),
     }
 }

@@ -1,0 +1,14 @@
+pub mod ReadersLaws
+pub mod WordsLaws
+pub mod TellingLaws
+pub mod EndsLaws
+pub mod OddQuotes
+pub mod PlacesLaws
+pub mod WordsPart
+pub mod LaidOut
+pub mod PassingLaws
+pub mod JoinedLaws
+pub mod QuotingLaws
+pub mod InsertedLineLaws
+pub mod InsertionsRead
+pub mod Outcomes

@@ -1,0 +1,5 @@
+pub mod Readers
+pub mod Words
+pub mod Telling
+pub mod HouseRule
+pub mod Inserting
