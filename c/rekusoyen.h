@@ -81,12 +81,18 @@ enum rekusoyen_answer {
 
     /* limits of what is lent */
     REKUSOYEN_SLICE_TOO_LONG = 60,                 /* an image or guest memory of more than 2^40 bytes */
-    REKUSOYEN_BAD_LIST = 61,                       /* ends that fall, or of which the last is not the length of the values */
+    REKUSOYEN_BAD_LIST = 61,                       /* ends that fall or of which the last is not the length of the values; part of a row,
+                                                    * or a number that does not fit its field */
     REKUSOYEN_NO_ROOM = 62,                        /* a buffer that has not its one size, or an output too short for the line */
 
     /* the words of a line */
     REKUSOYEN_UNCLOSED_QUOTE = 71,                 /* the number of quotes is odd */
     REKUSOYEN_TOO_FEW_PLACES = 72,                 /* a list has fewer places than the line has words */
+
+    /* the boot page */
+    REKUSOYEN_BAD_PAGE_SIZE = 73,                  /* a page that has not 4096 bytes */
+    REKUSOYEN_TOO_MANY_ROWS = 74,                  /* more than 128 rows */
+    REKUSOYEN_BAD_ROW = 75,                        /* a row that is empty, ends at 2^64 or above, or overlaps an earlier one */
 
     /* guest memory */
     REKUSOYEN_BAD_MAP = 77                         /* a map that is not good: see the map of guest memory below */
@@ -127,10 +133,13 @@ enum rekusoyen_answer {
     ROW(NO_BOOT_ARGS_INSERTED, "The line has init arguments alone.") \
     ROW(NULL_TERMINATOR, "The line has a zero byte.") \
     ROW(SLICE_TOO_LONG, "The image or guest memory has more than 2^40 bytes.") \
-    ROW(BAD_LIST, "A list of ends is not rising, or does not end where the values do.") \
+    ROW(BAD_LIST, "A list of ends is not rising or does not end where the values do, or a list of rows has part of a row or a number that does not fit its field.") \
     ROW(NO_ROOM, "A lent output has no room, or another size than it must have.") \
     ROW(UNCLOSED_QUOTE, "A quote of the line is not closed.") \
     ROW(TOO_FEW_PLACES, "A list has fewer places than the line has words.") \
+    ROW(BAD_PAGE_SIZE, "The boot page has another size than 4,096 bytes.") \
+    ROW(TOO_MANY_ROWS, "The memory map has more than 128 rows.") \
+    ROW(BAD_ROW, "A row of the memory map is empty, ends at 2^64 or above, or overlaps an earlier one.") \
     ROW(BAD_MAP, "A map is not good: its ranges must be 16 at most, not empty, rising, not touching, and within guest memory.")
 
 /* The name of an answer without its prefix, as "READ_KERNEL_IMAGE"; NULL of a number that no function answers. */
@@ -156,8 +165,8 @@ static inline const char *rekusoyen_answer_sentence(uint32_t answer)
 }
 
 /*
- * The stack that a call uses at the most, beside what memcpy and memset themselves use: a load of an image or a note walk, and
- * a call on a line. Measured on x86-64, a load of an image or of a line, which keep the map there, uses less than 1,408 bytes, and every
+ * The stack that a call uses at the most, beside what memcpy and memset themselves use: a load of an image, a note walk or a
+ * boot page, and a call on a line. Measured on x86-64, a load of an image or of a line, which keep the map there, uses less than 1,408 bytes, and every
  * other call less than 640.
  */
 #define REKUSOYEN_LOAD_STACK_SIZE ((size_t)2048)
@@ -306,6 +315,71 @@ uint32_t rekusoyen_bzimage_load(
     const uint8_t *image, size_t image_len,
     uint32_t flags, uint64_t offset, uint64_t highmem,
     uint64_t *out, size_t out_len,
+    uint8_t *header, size_t header_len);
+
+/* ---- the boot page */
+
+/*
+ * The boot page is the zero page of the Linux boot protocol: what a bzImage is told when it starts. A row of its memory map is three
+ * numbers: the address and the size of a range of guest memory, of 8 bytes each, and its type, of 4 bytes. Rows are given as one list of
+ * numbers, three for each row.
+ */
+#define REKUSOYEN_PAGE_SIZE 4096
+#define REKUSOYEN_PAGE_ROWS 128
+
+/* How many places the lists of a page that is read have: of values, and of the numbers of rows. */
+#define REKUSOYEN_PAGE_READ_OUT 4
+#define REKUSOYEN_PAGE_READ_ROWS (3 * REKUSOYEN_PAGE_ROWS)
+
+/*
+ * Builds the boot page.
+ *
+ *   page          REKUSOYEN_PAGE_SIZE bytes
+ *   header        REKUSOYEN_SETUP_HEADER_SIZE bytes: the setup header, as rekusoyen_bzimage_load leaves it
+ *   command_line  the guest address of the command line
+ *   ramdisk       the guest address of the initial ramdisk, and 0 without one
+ *   ramdisk_size  its size
+ *   rows          the rows of the memory map, in any order
+ *
+ * Refusals:
+ *   NO_ROOM        header_len is not REKUSOYEN_SETUP_HEADER_SIZE
+ *   BAD_PAGE_SIZE  page_len is not REKUSOYEN_PAGE_SIZE
+ *   BAD_LIST       rows_len is not a multiple of 3, or a type is 2^32 or more
+ *   TOO_MANY_ROWS  there are more than REKUSOYEN_PAGE_ROWS rows
+ *   BAD_ROW        a row has size 0, or its address + size is 2^64 or more, or it has an address in common with an earlier one
+ *
+ * Leaves, accepted: in page zeros, and over them the header at 1F1 hex; FF hex at 210 hex (the loader type); command_line at 228 hex,
+ * ramdisk at 218 hex and ramdisk_size at 21C hex, 4 bytes each; the count of rows at 1E8 hex, one byte; the rows from 2D0 hex on, 20
+ * bytes each. Every number has its least byte first. Leaves, refused: page as it was.
+ */
+uint32_t rekusoyen_page_build(
+    uint8_t *page, size_t page_len,
+    const uint8_t *header, size_t header_len,
+    uint32_t command_line, uint32_t ramdisk, uint32_t ramdisk_size,
+    const uint64_t *rows, size_t rows_len);
+
+/*
+ * Reads a boot page, whoever wrote it: what stands there. The rows are not tested.
+ *
+ *   page    REKUSOYEN_PAGE_SIZE bytes
+ *   out     REKUSOYEN_PAGE_READ_OUT places: how many rows the memory map has, the guest address of the command line, and the guest
+ *           address and the size of the initial ramdisk
+ *   rows    REKUSOYEN_PAGE_READ_ROWS places, for the numbers of the rows
+ *   header  REKUSOYEN_SETUP_HEADER_SIZE bytes: the setup header
+ *
+ * Refusals:
+ *   NO_ROOM        out_len is not REKUSOYEN_PAGE_READ_OUT, rows_len is not REKUSOYEN_PAGE_READ_ROWS, or header_len is not
+ *                  REKUSOYEN_SETUP_HEADER_SIZE
+ *   BAD_PAGE_SIZE  page_len is not REKUSOYEN_PAGE_SIZE
+ *   TOO_MANY_ROWS  the count of rows is above REKUSOYEN_PAGE_ROWS
+ *
+ * Leaves, accepted: in out the four values; in the first places of rows three numbers for each row, and the others as they were; in
+ * header the bytes of the page from 1F1 hex on. Leaves, refused: out, rows and header as they were.
+ */
+uint32_t rekusoyen_page_read(
+    const uint8_t *page, size_t page_len,
+    uint64_t *out, size_t out_len,
+    uint64_t *rows, size_t rows_len,
     uint8_t *header, size_t header_len);
 
 /* ---- lines */

@@ -65,6 +65,9 @@ static struct {
     NAMED(NO_ROOM),
     NAMED(UNCLOSED_QUOTE),
     NAMED(TOO_FEW_PLACES),
+    NAMED(BAD_PAGE_SIZE),
+    NAMED(TOO_MANY_ROWS),
+    NAMED(BAD_ROW),
     NAMED(BAD_MAP),
 };
 

@@ -39,6 +39,24 @@ static void check_loads(void)
     CHECK_KEPT("refused", &header);
 }
 
+static void check_pages(void)
+{
+    struct lent page = lend_filled(REKUSOYEN_PAGE_SIZE), header = lend_filled(REKUSOYEN_SETUP_HEADER_SIZE);
+    struct lent values = lend_list(REKUSOYEN_PAGE_READ_OUT), numbers = lend_list(REKUSOYEN_PAGE_READ_ROWS);
+    uint64_t *out = numbers_of(&values), *rows = numbers_of(&numbers);
+    const size_t out_len = REKUSOYEN_PAGE_READ_OUT, rows_len = REKUSOYEN_PAGE_READ_ROWS;
+    CHECK_ANSWER("page", rekusoyen_page_build(NULL, 0, header.bytes, header.size, 0, 0, 0, NULL, 0), REKUSOYEN_BAD_PAGE_SIZE);
+    CHECK_ANSWER("header", rekusoyen_page_build(page.bytes, page.size, NULL, 0, 0, 0, 0, NULL, 0), REKUSOYEN_NO_ROOM);
+    CHECK_ANSWER("page", rekusoyen_page_read(NULL, 0, out, out_len, rows, rows_len, header.bytes, header.size), REKUSOYEN_BAD_PAGE_SIZE);
+    CHECK_ANSWER("out", rekusoyen_page_read(page.bytes, page.size, NULL, 0, rows, rows_len, header.bytes, header.size), REKUSOYEN_NO_ROOM);
+    CHECK_ANSWER("rows", rekusoyen_page_read(page.bytes, page.size, out, out_len, NULL, 0, header.bytes, header.size), REKUSOYEN_NO_ROOM);
+    CHECK_ANSWER("header", rekusoyen_page_read(page.bytes, page.size, out, out_len, rows, rows_len, NULL, 0), REKUSOYEN_NO_ROOM);
+    CHECK_KEPT("refused", &page);
+    CHECK_KEPT("refused", &header);
+    CHECK_KEPT("refused", &values);
+    CHECK_KEPT("refused", &numbers);
+}
+
 static void check_lines_refused(void)
 {
     const struct line good = line_of((struct text)T("a"), (struct text)T(""), 9);
@@ -87,6 +105,7 @@ static void check_lines_accepted(void)
 void test_empty_slices(void)
 {
     check_loads();
+    check_pages();
     check_lines_refused();
     check_lines_accepted();
 }

@@ -20,7 +20,8 @@
 
 static uint8_t line[REKUSOYEN_LINE_SIZE], other_line[REKUSOYEN_LINE_SIZE];
 static uint8_t guest[64], setup_header[REKUSOYEN_SETUP_HEADER_SIZE];
-static uint64_t out[REKUSOYEN_ELF_LOAD_OUT];
+static uint64_t out[REKUSOYEN_ELF_LOAD_OUT], rows[REKUSOYEN_PAGE_READ_ROWS];
+static uint8_t page[REKUSOYEN_PAGE_SIZE];
 static struct image elf, bzimage;
 static const uint8_t text[] = "text";
 static const size_t ends[] = {2, 4};
@@ -51,6 +52,17 @@ static uint32_t bzimage_load(void)
     return rekusoyen_bzimage_load(
         guest, sizeof guest, ranges, RANGES, bzimage.bytes, bzimage.size, 0, 0, 0,
         out, REKUSOYEN_BZIMAGE_LOAD_OUT, setup_header, sizeof setup_header);
+}
+
+static uint32_t page_build(void)
+{
+    return rekusoyen_page_build(page, sizeof page, setup_header, sizeof setup_header, 1, 2, 3, rows, REKUSOYEN_PAGE_READ_ROWS);
+}
+
+static uint32_t page_read(void)
+{
+    return rekusoyen_page_read(
+        page, sizeof page, out, REKUSOYEN_PAGE_READ_OUT, rows, REKUSOYEN_PAGE_READ_ROWS, setup_header, sizeof setup_header);
 }
 
 static uint32_t line_new(void)
@@ -119,6 +131,8 @@ static const struct {
     {"rekusoyen_elf_load", elf_load, REKUSOYEN_LOAD_STACK_SIZE},
     {"rekusoyen_elf_note", elf_note, REKUSOYEN_LOAD_STACK_SIZE},
     {"rekusoyen_bzimage_load", bzimage_load, REKUSOYEN_LOAD_STACK_SIZE},
+    {"rekusoyen_page_build", page_build, REKUSOYEN_LOAD_STACK_SIZE},
+    {"rekusoyen_page_read", page_read, REKUSOYEN_LOAD_STACK_SIZE},
     {"rekusoyen_line_new", line_new, REKUSOYEN_LINE_STACK_SIZE},
     {"rekusoyen_line_try_from", line_try_from, REKUSOYEN_LINE_STACK_SIZE},
     {"rekusoyen_line_insert", line_insert, REKUSOYEN_LINE_STACK_SIZE},
@@ -168,6 +182,8 @@ void test_stack(void)
     elf = small_elf();
     memset(quotes, '"', sizeof quotes);
     bzimage = bz_image(1, 16, "k", 1);
+    for (size_t i = 0; i < REKUSOYEN_PAGE_READ_ROWS; i++)
+        rows[i] = i % 3 == 0 ? i : 1;
     const long least = sysconf(_SC_THREAD_STACK_MIN);
     const size_t size = least > (long)SMALL_STACK ? (size_t)least : SMALL_STACK;
     const int started = posix_memalign(&stack, 65536, size) == 0 && pthread_attr_init(&attributes) == 0 &&

@@ -5,6 +5,7 @@ use std::fmt::Debug;
 use rekusoyen::cmdline::Cmdline;
 
 pub mod cmdline;
+pub mod configurator;
 pub mod loader;
 
 /// One of the two texts of a line, as the line's debug form shows it. The published crate's tests read private fields for them.

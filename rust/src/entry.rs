@@ -12,6 +12,18 @@ pub const LIMIT: usize = 16384;
 /// How many bytes a bzImage's setup header has.
 pub const SETUP_HEADER_SIZE: usize = 123;
 
+/// How many bytes the boot page has.
+pub const PAGE_SIZE: usize = 4096;
+
+/// The most rows of a boot page's memory map.
+pub const PAGE_ROWS: usize = 128;
+
+/// How many places the list of a boot page's values has.
+pub const PAGE_READ_OUT: usize = 4;
+
+/// How many places the list for the numbers of a boot page's rows has.
+pub const PAGE_READ_ROWS: usize = 3 * PAGE_ROWS;
+
 /// The flag of a load to which an offset is given.
 pub const OFFSET_GIVEN: u32 = 1;
 
@@ -96,6 +108,40 @@ extern "C" {
         highmem: u64,
         out: *mut u64,
         out_len: usize,
+        header: *mut u8,
+        header_len: usize,
+    ) -> u32;
+
+    /// Builds the boot page in [`PAGE_SIZE`] bytes; `header` has [`SETUP_HEADER_SIZE`] bytes, and `rows` three numbers for each row.
+    ///
+    /// # Safety
+    ///
+    /// As of [`rekusoyen_elf_load`].
+    pub fn rekusoyen_page_build(
+        page: *mut u8,
+        page_len: usize,
+        header: *const u8,
+        header_len: usize,
+        command_line: u32,
+        ramdisk: u32,
+        ramdisk_size: u32,
+        rows: *const u64,
+        rows_len: usize,
+    ) -> u32;
+
+    /// Reads a boot page. `out` has 4 places: how many rows, the command line's address, the ramdisk's address and size; `rows` has
+    /// [`PAGE_READ_ROWS`] places, and `header` [`SETUP_HEADER_SIZE`] bytes.
+    ///
+    /// # Safety
+    ///
+    /// As of [`rekusoyen_elf_load`].
+    pub fn rekusoyen_page_read(
+        page: *const u8,
+        page_len: usize,
+        out: *mut u64,
+        out_len: usize,
+        rows: *mut u64,
+        rows_len: usize,
         header: *mut u8,
         header_len: usize,
     ) -> u32;

@@ -31,6 +31,7 @@
 //!
 //! Guest memory may have holes: a [`Map`] names the ranges in which there is memory, and `load_into_map` of both loaders and
 //! [`load_cmdline_into_map`](loader::load_cmdline_into_map) take one. Without a map the slice has no hole.
+//! [`boot_page`] builds and reads the zero page of a bzImage.
 //!
 //! With the feature `vm-memory`, `loader` has the trait `KernelLoader` and the function `load_cmdline` of linux-loader, with its
 //! signatures: a monitor writes `use rekusoyen::..` for `use linux_loader::..`. Guest memory is then the region that begins at
@@ -47,7 +48,10 @@
 compile_error!("the proved library is compiled for little-endian processors of 64 bits");
 
 mod address;
+pub mod boot_page;
 pub mod cmdline;
+#[cfg(feature = "vm-memory")]
+pub mod configurator;
 pub mod entry;
 mod lent;
 pub mod loader;

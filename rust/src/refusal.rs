@@ -95,7 +95,7 @@ refusals! {
     NullTerminator = 51,
     /// The image or guest memory has more than 2^40 bytes.
     SliceTooLong = 60,
-    /// A list of ends is not rising, or does not end where the values do.
+    /// A list of ends is not rising or does not end where the values do, or a list of rows has part of a row or a number that does not fit its field.
     BadList = 61,
     /// A lent output has no room, or another size than it must have.
     NoRoom = 62,
@@ -103,6 +103,12 @@ refusals! {
     UnclosedQuote = 71,
     /// A list has fewer places than the line has words.
     TooFewPlaces = 72,
+    /// The boot page has another size than 4,096 bytes.
+    BadPageSize = 73,
+    /// The memory map has more than 128 rows.
+    TooManyRows = 74,
+    /// A row of the memory map is empty, ends at 2^64 or above, or overlaps an earlier one.
+    BadRow = 75,
     /// A map is not good: its ranges must be 16 at most, not empty, rising, not touching, and within guest memory.
     BadMap = 77,
 }

@@ -3,7 +3,9 @@
 mod images;
 
 use images::{fresh, note, note_header, BzImageFile, ElfImage, LOADABLE, NOTE};
+use rekusoyen::boot_page;
 use rekusoyen::cmdline::{self, Cmdline};
+use rekusoyen::loader::bootparam::boot_e820_entry;
 use rekusoyen::loader::{
     self, bzimage, elf, load_cmdline_into, load_cmdline_into_map, BzImage, Elf,
 };
@@ -23,6 +25,7 @@ fn every_refusal_is_reached_and_has_its_number() {
         of_bzimage(),
         of_lines(),
         of_maps(),
+        of_pages(),
         of_long(),
         of_words(),
     ]
@@ -34,6 +37,24 @@ fn every_refusal_is_reached_and_has_its_number() {
         let is_reached = reached.iter().any(|row| row.0 == *refusal);
         assert_eq!(is_reached, !NEVER.contains(refusal), "{refusal:?}");
     }
+}
+
+fn of_pages() -> Reached {
+    let row = boot_e820_entry {
+        addr: 0,
+        size: 0,
+        r#type: 1,
+    };
+    let build = |size: usize, count: usize| {
+        let (header, addresses) = (Default::default(), Default::default());
+        boot_page::build(&mut vec![0; size], header, addresses, &vec![row; count])
+    };
+    let by_page = |answer: Result<(), Refusal>| answer.err().map(Refusal::number);
+    vec![
+        (Refusal::BadPageSize, by_page(build(4095, 129))),
+        (Refusal::TooManyRows, by_page(build(4096, 129))),
+        (Refusal::BadRow, by_page(build(4096, 128))),
+    ]
 }
 
 /// No bytes lead to these: a reader that fails does, or nothing at all.

@@ -1,10 +1,12 @@
 //! Asks a program that has the second program's functions. It stands over the second program itself and over the copy with planted
 //! mistakes: the module above names which as `program`.
 
-use super::program::{bzimage, elf, line::Line, loading, note, words, Refusal, Rules};
-use crate::answer::{Answer, BzimageLoaded, CallAnswer, ElfLoaded, Note, NoteWalked, Pvh};
+use super::program::{bzimage, elf, line::Line, loading, note, page, words, Refusal, Rules};
+use crate::answer::{
+    Answer, BzimageLoaded, CallAnswer, ElfLoaded, Note, NoteWalked, PageFound, Pvh,
+};
 use crate::lists::Lists;
-use crate::question::{Call, Load, Question, Walk, Words};
+use crate::question::{Call, Load, PageBuild, PageRead, Question, Walk, Words};
 
 /// What an untouched byte of a lent output holds.
 const UNTOUCHED: u8 = 0xe7;
@@ -30,7 +32,37 @@ pub fn answer_by(question: &Question, rules: second::Rules) -> Answer {
             }
         }
         Question::Words(asked) => answer_words(asked),
+        Question::PageBuild(build) => answer_build(build),
+        Question::PageRead(read) => Answer::PageRead(answer_read(read)),
     }
+}
+
+fn answer_build(build: &PageBuild) -> Answer {
+    let mut page = build.page.clone();
+    let header = build.header.as_slice().try_into();
+    let addresses = page::Addresses {
+        command_line: build.command_line,
+        ramdisk: build.ramdisk,
+        ramdisk_size: build.ramdisk_size,
+    };
+    let header = header.expect("a header has 123 bytes");
+    let outcome = page::build(&mut page, header, addresses, &build.numbers);
+    let outcome = outcome.map_err(Refusal::number);
+    Answer::PageBuild { outcome, page }
+}
+
+fn answer_read(read: &PageRead) -> Result<PageFound, u8> {
+    let found = page::read(&read.page()).map_err(Refusal::number)?;
+    let rows = found.rows.iter();
+    Ok(PageFound {
+        command_line: found.addresses.command_line,
+        ramdisk: found.addresses.ramdisk,
+        ramdisk_size: found.addresses.ramdisk_size,
+        header: found.header.to_vec(),
+        numbers: rows
+            .flat_map(|row| [row.address, row.size, row.kind.into()])
+            .collect(),
+    })
 }
 
 fn answer_words(asked: &Words) -> Answer {

@@ -41,6 +41,17 @@ pub struct BzimageLoaded {
     pub header: Vec<u8>,
 }
 
+/// What stands in a page.
+#[derive(Clone, Debug, PartialEq, Eq)]
+pub struct PageFound {
+    pub command_line: u32,
+    pub ramdisk: u32,
+    pub ramdisk_size: u32,
+    pub header: Vec<u8>,
+    /// Three for each row.
+    pub numbers: Vec<u64>,
+}
+
 #[derive(Clone, Debug, PartialEq, Eq)]
 pub enum CallAnswer {
     Ok,
@@ -74,6 +85,11 @@ pub enum Answer {
         guest: Vec<u8>,
     },
     Words(WordsRead),
+    PageBuild {
+        outcome: Result<(), u8>,
+        page: Vec<u8>,
+    },
+    PageRead(Result<PageFound, u8>),
 }
 
 /// What reading the words of a line left.
@@ -131,6 +147,22 @@ impl Answer {
                 put_guest(&mut line, before, guest);
             }
             Answer::Words(read) => put_words(&mut line, read),
+            Answer::PageBuild { outcome, page } => {
+                match outcome {
+                    Ok(()) => line += "page ok",
+                    Err(number) => line += &format!("page refused {number}"),
+                }
+                put_guest(&mut line, before, page);
+            }
+            Answer::PageRead(Ok(found)) => {
+                let (rows, header) = (found.numbers.len() / 3, hex(&found.header));
+                let (at, ramdisk, size) = (found.command_line, found.ramdisk, found.ramdisk_size);
+                line += &format!("page ok {rows} {at} {ramdisk} {size} header {header} rows");
+                for number in &found.numbers {
+                    line += &format!(" {number}");
+                }
+            }
+            Answer::PageRead(Err(number)) => line += &format!("page refused {number}"),
         }
         line
     }
@@ -150,6 +182,8 @@ impl Answer {
             Answer::Words(read) => {
                 numbers.extend(read.outcome.as_ref().err().map(|(number, _)| *number));
             }
+            Answer::PageBuild { outcome, .. } => numbers.extend(outcome.err()),
+            Answer::PageRead(outcome) => numbers.extend(outcome.as_ref().err()),
         }
         numbers
     }

@@ -2,7 +2,7 @@
 
 use crate::examples::{put, pvh_note, small_bzimage, small_elf};
 use crate::map_cases;
-use crate::question::{Call, Load, Question, Walk, Words};
+use crate::question::{Call, Load, PageBuild, PageRead, Question, Walk, Words};
 
 /// A question, and the answer to it in the short form of the test below.
 pub type Case = (Question, &'static str);
@@ -23,6 +23,7 @@ pub fn all() -> Vec<Case> {
         equal(),
         map_cases::all(),
         words(),
+        pages(),
     ]
     .concat()
 }
@@ -636,6 +637,70 @@ fn words() -> Vec<Case> {
         read("a b", [2, 1, 2], "words refused 72"),
         read("a b", [2, 2, 1], "words refused 72"),
         read("a b", [2, 3, 4], "words ok 2 0 1 1 2 3 3"),
+    ]
+}
+
+fn pages() -> Vec<Case> {
+    let built = |size: usize, numbers: &[u64], told| {
+        let build = PageBuild {
+            command_line: 0x2_0000,
+            ramdisk: 0x100_0000,
+            ramdisk_size: 3,
+            header: vec![0; 123],
+            numbers: numbers.to_vec(),
+            page: vec![0; size],
+        };
+        (Question::PageBuild(build), told)
+    };
+    // one byte of a page that else is zero
+    let read = |length, place, byte, told| {
+        let read = PageRead {
+            length,
+            fill: 0,
+            place,
+            bytes: vec![byte],
+        };
+        (Question::PageRead(read), told)
+    };
+    let many: Vec<u64> = (0..387).map(|k| if k % 3 == 0 { k } else { 1 }).collect();
+    let top = u64::MAX;
+    vec![
+        // without rows the loader type, at 210 hex, is the first byte set, and the command line's address the last
+        built(4096, &[], "page ok, 528 to 554 changed"),
+        built(4096, &[0, 1, 1], "page ok, 488 to 736 changed"),
+        built(4096, &[top - 1, 1, 0], "page ok, 488 to 728 changed"),
+        built(4095, &[0], "page refused 73, nothing changed"),
+        built(4096, &[0], "page refused 61, nothing changed"),
+        built(4096, &[0, 0, 1 << 32], "page refused 61, nothing changed"),
+        built(4096, &many, "page refused 74, nothing changed"),
+        built(4096, &many[3..], "page ok, 488 to 3276 changed"),
+        built(4096, &[0, 0, 0], "page refused 75, nothing changed"),
+        built(4096, &[top, 1, 0], "page refused 75, nothing changed"),
+        built(
+            4096,
+            &[0, 2, 1, 9, 1, 1, 1, 1, 1],
+            "page refused 75, nothing changed",
+        ),
+        read(
+            4096,
+            0x228,
+            5,
+            "page ok 0 5 0 0 header 00..00..00000000..00 rows",
+        ),
+        read(
+            4096,
+            0x1f1,
+            5,
+            "page ok 0 0 0 0 header 05..00..00000000..00 rows",
+        ),
+        read(
+            4096,
+            0x1e8,
+            1,
+            "page ok 1 0 0 0 header 00..00..00000000..00 rows 0 0 0",
+        ),
+        read(4096, 0x1e8, 129, "page refused 74"),
+        read(4097, 0x1e8, 129, "page refused 73"),
     ]
 }
 

@@ -1,11 +1,16 @@
 //! Questions read back from bytes: what a program that answers them does first.
 
 use crate::encode::{LARGEST, MOST_PLACES};
-use crate::question::{Call, LineLoad, Load, Map, Options, Question, Walk, Words};
+use crate::question::{
+    Call, LineLoad, Load, Map, Options, PageBuild, PageRead, Question, Walk, Words,
+};
 use std::io::{self, Read};
 
 const BODY_LIMIT: usize = 2_162_688;
 const ENDS_LIMIT: usize = 64;
+const NUMBERS_LIMIT: usize = 400;
+const PAGE_LIMIT: usize = 65_536;
+const HEADER_SIZE: u64 = 123;
 
 /// What stands next on the input.
 #[derive(Debug, PartialEq, Eq)]
@@ -78,8 +83,43 @@ pub fn question(body: &[u8]) -> Parsed<Question> {
         7 => Question::Bzimage(load(map(&mut rest)?, rest)?),
         8 => Question::LineLoad(line_load(map(&mut rest)?, rest)?),
         9 => Question::Words(words(rest)?),
+        10 => Question::PageBuild(page_build(rest)?),
+        11 => {
+            let length = rest.number::<4>()? as u32;
+            if length as usize > PAGE_LIMIT {
+                return Err("over 64 KiB");
+            }
+            Question::PageRead(PageRead {
+                length,
+                fill: rest.number::<1>()? as u8,
+                place: rest.number::<4>()? as u32,
+                bytes: rest.0.to_vec(),
+            })
+        }
         _ => return Err("unknown kind"),
     })
+}
+
+fn page_build(mut rest: Rest) -> Parsed<PageBuild> {
+    let (length, fill) = (rest.number::<4>()? as usize, rest.number::<1>()? as u8);
+    if length > PAGE_LIMIT {
+        return Err("over 64 KiB");
+    }
+    let mut build = PageBuild {
+        command_line: rest.number::<4>()? as u32,
+        ramdisk: rest.number::<4>()? as u32,
+        ramdisk_size: rest.number::<4>()? as u32,
+        header: rest.bytes(HEADER_SIZE)?,
+        numbers: Vec::new(),
+        page: vec![fill; length],
+    };
+    if rest.0.len() > 8 * NUMBERS_LIMIT {
+        return Err("too many numbers");
+    }
+    while !rest.0.is_empty() {
+        build.numbers.push(rest.number::<8>()?);
+    }
+    Ok(build)
 }
 
 /// The numbers of a map, with their count in front.

@@ -2,6 +2,7 @@
 //! here leaves something out, and says why. The second program is compared on everything.
 
 use crate::answer::Answer;
+use crate::over_second;
 use crate::parts::{self, Part};
 use crate::question::{Call, Load, Question};
 use second::fields::range;
@@ -19,7 +20,13 @@ pub fn asks_crate(question: &Question) -> bool {
         Question::LineLoad(load) => has_regions(question) && !has_high_bytes(&load.calls),
         // the crate does not read a line back
         Question::Words(_) => false,
+        Question::PageBuild(_) | Question::PageRead(_) => !page_is_refused(question),
     }
+}
+
+/// The crate has a struct for the boot page and nothing that fills or tests it, so it refuses none.
+fn page_is_refused(question: &Question) -> bool {
+    !over_second::answer(question).numbers().is_empty()
 }
 
 /// The crate's guest memory is a region for each range of a good map, and one at least: its memory library makes no empty region, and has
@@ -133,7 +140,6 @@ fn clamped((address, size): Part, length: usize) -> Range<usize> {
 mod tests {
     use super::*;
     use crate::examples;
-    use crate::over_second;
 
     #[test]
     fn an_empty_guest_and_an_empty_kernel_are_left_out() {

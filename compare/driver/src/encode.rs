@@ -15,6 +15,7 @@ pub fn fits(question: &Question) -> bool {
         Question::Note(walk) => &walk.image,
         Question::Line(_) | Question::LineLoad(_) => return question.guest().len() <= LARGEST,
         Question::Words(words) => return words.places.iter().all(|count| *count <= MOST_PLACES),
+        Question::PageBuild(_) | Question::PageRead(_) => return true,
     };
     image.len() <= LARGEST && question.guest().len() <= LARGEST
 }
@@ -55,6 +56,25 @@ fn body(question: &Question) -> Vec<u8> {
                 out.extend(count.to_le_bytes());
             }
             out.extend(&words.text);
+        }
+        Question::PageBuild(build) => {
+            out.push(10);
+            put_length4(&mut out, &build.page);
+            out.push(build.page.first().copied().unwrap_or(0));
+            for address in [build.command_line, build.ramdisk, build.ramdisk_size] {
+                out.extend(address.to_le_bytes());
+            }
+            out.extend(&build.header);
+            for number in &build.numbers {
+                out.extend(number.to_le_bytes());
+            }
+        }
+        Question::PageRead(read) => {
+            out.push(11);
+            out.extend(read.length.to_le_bytes());
+            out.push(read.fill);
+            out.extend(read.place.to_le_bytes());
+            out.extend(&read.bytes);
         }
     }
     out

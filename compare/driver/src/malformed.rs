@@ -5,6 +5,7 @@ pub fn all() -> Vec<(Vec<u8>, &'static str)> {
     let lengths = "malformed: the lengths of image and guest";
     let map = "malformed: the map";
     let over_nothing = |kind| [&[kind, 1][..], &[0; 8]].concat();
+    let rows = "malformed: the lengths of page and rows";
     let mut load = vec![1; 26];
     load[18] = 9;
     let mut questions: Vec<_> = [
@@ -30,6 +31,12 @@ pub fn all() -> Vec<(Vec<u8>, &'static str)> {
             vec![9, 1, 32, 0, 0, 0, 0, 0, 0, 0, 0, 0, 0],
             "malformed: the places of the lists",
         ),
+        (vec![10; 140], "malformed: no page"),
+        (page_build(4096, 7), rows),
+        (page_build(65_537, 0), rows),
+        (page_build(4096, 8 * 401), rows),
+        (vec![11; 9], "malformed: no page"),
+        (vec![11, 1, 0, 1, 0, 0, 0, 0, 0, 0], "malformed: no page"),
     ]
     .into_iter()
     .map(|(body, line)| (framed(&body), line))
@@ -38,6 +45,14 @@ pub fn all() -> Vec<(Vec<u8>, &'static str)> {
     cut.pop();
     questions.push((cut, "malformed: cut short"));
     questions
+}
+
+/// The body of a page that is built, of so many bytes, with so many bytes behind the header.
+fn page_build(size: u32, rest: usize) -> Vec<u8> {
+    let mut body = vec![10];
+    body.extend(size.to_le_bytes());
+    body.resize(141 + rest, 0);
+    body
 }
 
 fn framed(body: &[u8]) -> Vec<u8> {

@@ -15,7 +15,11 @@ pub fn parts(question: &Question) -> Vec<Part> {
         }
         Question::Bzimage(load) => kernel(load).into_iter().collect(),
         Question::LineLoad(load) => written_line(load).into_iter().collect(),
-        Question::Note(_) | Question::Line(_) | Question::Words(_) => vec![],
+        Question::Note(_)
+        | Question::Line(_)
+        | Question::Words(_)
+        | Question::PageBuild(_)
+        | Question::PageRead(_) => vec![],
     }
 }
 

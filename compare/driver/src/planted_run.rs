@@ -8,7 +8,7 @@ use crate::run::{run, Plan, EXHAUSTIVE_PARTS};
 use second::Rules;
 
 /// Enough random questions for a rare path, after all the exhaustive ones.
-const RANDOM: [u64; Area::COUNT] = [160_000, 80_000, 80_000, 80_000, 40_000, 40_000];
+const RANDOM: [u64; Area::COUNT] = [160_000, 80_000, 80_000, 80_000, 40_000, 40_000, 20_000];
 
 /// Prints for each mistake who noticed it, then the score; answers whether the unedited program noticed them all.
 pub fn planted(seed: u64, threads: usize, published: Option<&Maker>) -> bool {

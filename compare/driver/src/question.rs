@@ -38,6 +38,36 @@ pub struct LineLoad {
     pub calls: Vec<Call>,
 }
 
+/// A boot page to build, over a page all of whose bytes are one.
+#[derive(Clone, Debug, PartialEq, Eq)]
+pub struct PageBuild {
+    pub command_line: u32,
+    pub ramdisk: u32,
+    pub ramdisk_size: u32,
+    pub header: Vec<u8>,
+    /// Three for each row.
+    pub numbers: Vec<u64>,
+    pub page: Vec<u8>,
+}
+
+/// A page to read: all of its bytes are `fill`, but for those that are put at a place of it.
+#[derive(Clone, Debug, PartialEq, Eq)]
+pub struct PageRead {
+    pub length: u32,
+    pub fill: u8,
+    pub place: u32,
+    pub bytes: Vec<u8>,
+}
+
+impl PageRead {
+    pub fn page(&self) -> Vec<u8> {
+        let mut page = vec![self.fill; self.length as usize];
+        let part = page.iter_mut().skip(self.place as usize);
+        part.zip(&self.bytes).for_each(|(old, new)| *old = *new);
+        page
+    }
+}
+
 #[derive(Clone, Debug, PartialEq, Eq)]
 pub enum Question {
     Elf(Load),
@@ -46,6 +76,8 @@ pub enum Question {
     Line(Vec<Call>),
     LineLoad(LineLoad),
     Words(Words),
+    PageBuild(PageBuild),
+    PageRead(PageRead),
 }
 
 /// A line to read the words of, and how many places each of the three lists has.
@@ -89,7 +121,7 @@ pub enum Call {
     IsEqual,
 }
 
-/// The areas that cases are counted by, one for each kind of question.
+/// The areas that cases are counted by, one for each kind of question; building a page and reading one are one area.
 #[derive(Clone, Copy, Debug, PartialEq, Eq)]
 pub enum Area {
     Elf,
@@ -98,11 +130,12 @@ pub enum Area {
     Line,
     LineLoad,
     Words,
+    Page,
 }
 
 impl Area {
     /// How many there are.
-    pub const COUNT: usize = 6;
+    pub const COUNT: usize = 7;
 
     pub const ALL: [Area; Area::COUNT] = [
         Area::Elf,
@@ -111,6 +144,7 @@ impl Area {
         Area::Line,
         Area::LineLoad,
         Area::Words,
+        Area::Page,
     ];
 
     pub fn name(self) -> &'static str {
@@ -121,6 +155,7 @@ impl Area {
             Area::Line => "line",
             Area::LineLoad => "load",
             Area::Words => "words",
+            Area::Page => "page",
         }
     }
 
@@ -138,15 +173,19 @@ impl Question {
             Question::Line(_) => Area::Line,
             Question::LineLoad(_) => Area::LineLoad,
             Question::Words(_) => Area::Words,
+            Question::PageBuild(_) | Question::PageRead(_) => Area::Page,
         }
     }
 
-    /// The guest's first content; a question without a guest has an empty one.
+    /// The guest's first content, or the page's; a question without a guest has an empty one.
     pub fn guest(&self) -> &[u8] {
         match self {
             Question::Elf(load) | Question::Bzimage(load) => &load.guest,
             Question::LineLoad(load) => &load.guest,
-            Question::Note(_) | Question::Line(_) | Question::Words(_) => &[],
+            Question::PageBuild(build) => &build.page,
+            Question::Note(_) | Question::Line(_) | Question::Words(_) | Question::PageRead(_) => {
+                &[]
+            }
         }
     }
 
@@ -155,7 +194,11 @@ impl Question {
         match self {
             Question::Elf(load) | Question::Bzimage(load) => load.map.as_deref(),
             Question::LineLoad(load) => load.map.as_deref(),
-            Question::Note(_) | Question::Line(_) | Question::Words(_) => None,
+            Question::Note(_)
+            | Question::Line(_)
+            | Question::Words(_)
+            | Question::PageBuild(_)
+            | Question::PageRead(_) => None,
         }
     }
 
@@ -170,7 +213,11 @@ impl Question {
         match &mut self {
             Question::Elf(load) | Question::Bzimage(load) => load.map = map,
             Question::LineLoad(load) => load.map = map,
-            Question::Note(_) | Question::Line(_) | Question::Words(_) => {}
+            Question::Note(_)
+            | Question::Line(_)
+            | Question::Words(_)
+            | Question::PageBuild(_)
+            | Question::PageRead(_) => {}
         }
         self
     }

@@ -298,7 +298,7 @@ mod tests {
     fn outcome(seed: u64, threads: usize) -> Outcome {
         let plan = Plan {
             seed,
-            random: [300, 300, 20, 9000, 300, 300],
+            random: [300, 300, 20, 9000, 300, 300, 40],
             exhaustive: 0,
             threads,
             stop_at_difference: false,
@@ -312,7 +312,7 @@ mod tests {
     #[test]
     fn one_seed_gives_one_result_on_any_number_of_threads() {
         let first = outcome(5, 1);
-        assert_eq!(first.cases, [300, 300, 20, 9000, 300, 300]);
+        assert_eq!(first.cases, [300, 300, 20, 9000, 300, 300, 40]);
         assert_eq!(first.numbers, outcome(5, 3).numbers);
         assert_ne!(first.numbers, outcome(6, 1).numbers);
         assert_eq!(first.over_maps, 100 + 7 + 100);

@@ -1,6 +1,6 @@
 //! Questions as a person reads them.
 
-use crate::question::{Call, Load, Map, Question};
+use crate::question::{Call, Load, Map, PageBuild, PageRead, Question};
 use std::fmt::Write;
 
 pub fn show(question: &Question) -> String {
@@ -26,7 +26,26 @@ pub fn show(question: &Question) -> String {
             text(&words.text),
             words.places
         ),
+        Question::PageBuild(build) => show_build(build),
+        Question::PageRead(read) => show_read(read),
     }
+}
+
+fn show_build(build: &PageBuild) -> String {
+    let addresses = (build.command_line, build.ramdisk, build.ramdisk_size);
+    let (length, fill) = (build.page.len(), build.page.first().unwrap_or(&0));
+    let (numbers, header) = (&build.numbers, show_bytes("header", &build.header));
+    format!("a page of {length} bytes {fill} built, addresses {addresses:?}, rows {numbers:?}\n{header}")
+}
+
+fn show_read(read: &PageRead) -> String {
+    format!(
+        "a page of {} bytes {} read, from {} on\n{}",
+        read.length,
+        read.fill,
+        read.place,
+        show_bytes("bytes", &read.bytes)
+    )
 }
 
 fn show_load(load: &Load) -> String {

@@ -1,6 +1,6 @@
 //! Makes a differing question as small as it can be while it still differs.
 
-use crate::question::{Call, Load, Map, Question, Words};
+use crate::question::{Call, Load, Map, PageBuild, PageRead, Question, Words};
 
 /// How many questions are asked at most in search of a smaller one.
 const PATIENCE: usize = 20_000;
@@ -84,7 +84,41 @@ fn smaller(question: &Question) -> Vec<Question> {
             }
             all.into_iter().map(Question::Words).collect()
         }
+        Question::PageBuild(build) => smaller_builds(build).map(Question::PageBuild).collect(),
+        Question::PageRead(read) => smaller_reads(read).map(Question::PageRead).collect(),
     }
+}
+
+/// One row less, or one number of the list smaller, or a header of fewer bytes that are not 0.
+fn smaller_builds(build: &PageBuild) -> impl Iterator<Item = PageBuild> + '_ {
+    let mut all = Vec::new();
+    for row in 0..build.numbers.len().div_ceil(3) {
+        let mut smaller = build.clone();
+        smaller
+            .numbers
+            .drain(3 * row..build.numbers.len().min(3 * row + 3));
+        all.push(smaller);
+    }
+    for (index, number) in build.numbers.iter().enumerate() {
+        for number in smaller_numbers(*number) {
+            let mut smaller = build.clone();
+            smaller.numbers[index] = number;
+            all.push(smaller);
+        }
+    }
+    let headers = smaller_bytes(&build.header).filter(|header| header.len() == build.header.len());
+    let headers = headers.map(|header| PageBuild {
+        header,
+        ..build.clone()
+    });
+    all.into_iter().chain(headers)
+}
+
+fn smaller_reads(read: &PageRead) -> impl Iterator<Item = PageRead> + '_ {
+    smaller_bytes(&read.bytes).map(|bytes| PageRead {
+        bytes,
+        ..read.clone()
+    })
 }
 
 fn smaller_loads(load: &Load) -> impl Iterator<Item = Load> + '_ {

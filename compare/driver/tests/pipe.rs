@@ -11,17 +11,17 @@ fn compare(words: &[&str]) -> Output {
 
 fn run_against(program: &str) -> Output {
     let few = ["--elf", "300", "--note", "300", "--bzimage", "30"];
-    let more = [
-        "--line",
-        "300",
-        "--load",
-        "300",
-        "--words",
-        "300",
-        "--exhaustive",
-        "0",
-    ];
-    let words = [&["run", "--probe", program][..], &few, &more].concat();
+    let more = ["--line", "300", "--load", "300"];
+    let added = ["--words", "300", "--page", "300"];
+    let alone = ["--exhaustive", "0"];
+    let words = [
+        &["run", "--probe", program][..],
+        &few,
+        &more,
+        &added,
+        &alone,
+    ]
+    .concat();
     compare(&words)
 }
 
@@ -32,7 +32,7 @@ fn a_program_that_answers_right_has_no_difference() {
     let said = String::from_utf8(output.stdout).unwrap();
     assert!(output.status.success(), "{said}");
     let last = said.lines().last().unwrap();
-    let counts = "elf 300, note 300, bzimage 30, line 300, load 300, words 300";
+    let counts = "elf 300, note 300, bzimage 30, line 300, load 300, words 300, page 300";
     let wanted = format!(
         "cases: {counts}; probe compared on {counts}; over maps: 210, probe 210; numbers reached:"
     );
@@ -46,7 +46,7 @@ fn a_program_that_says_nothing_differs_everywhere() {
     let said = String::from_utf8(output.stdout).unwrap();
     assert_eq!(output.status.code(), Some(1));
     assert!(said.contains("probe: (the program has ended)"), "{said}");
-    assert!(said.ends_with("unexplained: 1530\n"), "{said}");
+    assert!(said.ends_with("unexplained: 1830\n"), "{said}");
 }
 
 #[test]

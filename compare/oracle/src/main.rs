@@ -4,6 +4,7 @@ mod guest;
 mod lines;
 mod numbers;
 mod outside;
+mod pages;
 mod published;
 
 use driver::backend::Maker;

@@ -3,6 +3,7 @@
 use crate::guest::{content, Guests};
 use crate::lines;
 use crate::numbers;
+use crate::pages;
 use driver::answer::{Answer, BzimageLoaded, ElfLoaded, NoteWalked, Pvh};
 use driver::backend::{Backend, Reply};
 use driver::compare;
@@ -55,6 +56,8 @@ impl Published {
             Question::Line(calls) => Answer::Line(lines::answer_calls(calls).0),
             Question::LineLoad(load) => self.line_load(load),
             Question::Words(_) => unreachable!("the crate is not asked for words"),
+            Question::PageBuild(build) => pages::build(build),
+            Question::PageRead(read) => pages::read(read),
         }
     }
 

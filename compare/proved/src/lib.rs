@@ -2,6 +2,7 @@
 
 mod lines;
 mod loads;
+mod pages;
 mod words;
 
 use driver::backend::{Backend, Reply};
@@ -23,6 +24,8 @@ impl Backend for Proved {
             Question::Line(calls) => lines::calls(calls),
             Question::LineLoad(load) => lines::load(load, &map),
             Question::Words(asked) => words::read(asked),
+            Question::PageBuild(build) => pages::build(build),
+            Question::PageRead(read) => pages::read(read),
         })
     }
 }

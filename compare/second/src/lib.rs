@@ -12,6 +12,7 @@ pub mod line;
 pub mod loading;
 pub mod map;
 pub mod note;
+pub mod page;
 pub mod refusal;
 pub mod rules;
 pub mod separator;

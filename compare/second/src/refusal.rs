@@ -40,6 +40,9 @@ pub enum Refusal {
     NoRoom = 62,
     UnclosedQuote = 71,
     TooFewPlaces = 72,
+    BadPageSize = 73,
+    TooManyRows = 74,
+    BadRow = 75,
     BadMap = 77,
 }
 

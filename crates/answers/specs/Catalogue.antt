@@ -40,4 +40,7 @@ numberOf refusal.BadList = 61
 numberOf refusal.NoRoom = 62
 numberOf refusal.UnclosedQuote = 71
 numberOf refusal.TooFewPlaces = 72
+numberOf refusal.BadPageSize = 73
+numberOf refusal.TooManyRows = 74
+numberOf refusal.BadRow = 75
 numberOf refusal.BadMap = 77

@@ -48,6 +48,10 @@ pub enum Refusal {
     // the words of a line
     UnclosedQuote,
     TooFewPlaces,
+    // the boot page
+    BadPageSize,
+    TooManyRows,
+    BadRow,
     // guest memory
     BadMap,
 }
@@ -93,6 +97,9 @@ pub fn number(refusal: Refusal) -> u32
         Refusal::NoRoom => 62,
         Refusal::UnclosedQuote => 71,
         Refusal::TooFewPlaces => 72,
+        Refusal::BadPageSize => 73,
+        Refusal::TooManyRows => 74,
+        Refusal::BadRow => 75,
         Refusal::BadMap => 77,
     }
 }

@@ -26,12 +26,12 @@ use Rattle.bzimage.proofs.PlanLaws.{loaded-plan, refused-plan}
 
 -- ---- the bytes as read
 
-length-bytes : (n : ℕ) (s : List ℕ) (p : ℕ) → length (bytesFrom n s p) ≡ n
+pub length-bytes : (n : ℕ) (s : List ℕ) (p : ℕ) → length (bytesFrom n s p) ≡ n
 unfolding bytesFrom
 length-bytes zero s p = refl
 length-bytes (suc n) s p = ap suc (length-bytes n s (suc p))
 
-byte-of : (n : ℕ) (s : List ℕ) (p i : ℕ) → i < n → getD (bytesFrom n s p) i 0 ≡ getD s (p + i) 0
+pub byte-of : (n : ℕ) (s : List ℕ) (p i : ℕ) → i < n → getD (bytesFrom n s p) i 0 ≡ getD s (p + i) 0
 unfolding bytesFrom
 byte-of zero s p i h = absurd (omega arith)
 byte-of (suc n) s p zero h = ap (λ (k : ℕ). getD s k 0) (let same : p ≡ p + 0 = omega arith in same)

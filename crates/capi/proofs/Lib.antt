@@ -5,4 +5,5 @@ pub mod LinesStay
 pub mod BehindTexts
 pub mod ZerosStay
 pub mod LineWordsLaws
+pub mod PagesLaws
 pub mod Outcomes

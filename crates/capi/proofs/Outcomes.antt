@@ -30,6 +30,10 @@ use Rattle.capi.proofs.line_words.rekusoyen_line_words.Kinds as line-wo
 use Rattle.capi.proofs.line_words.rekusoyen_line_words.Reads as line-words-reads
 use Rattle.capi.proofs.rekusoyen_line_load.Kinds as line-load-kinds
 use Rattle.capi.proofs.rekusoyen_line_load.Reads as line-load-reads
+use Rattle.capi.proofs.pages.rekusoyen_page_build.Kinds as page-build-kinds
+use Rattle.capi.proofs.pages.rekusoyen_page_build.Reads as page-build-reads
+use Rattle.capi.proofs.pages.rekusoyen_page_read.Kinds as page-read-kinds
+use Rattle.capi.proofs.pages.rekusoyen_page_read.Reads as page-read-reads
 
 -- two tuples, part by part
 both : {A B : Type 0} {x y : A} {u v : B} → x ≡ y → u ≡ v → _≡_ {A = A × B} (x, u) (y, v)
@@ -85,3 +89,10 @@ line-words-one κs a z z' ws ws' p q = (
   over (both (meet (p .written .starts-at) (q .written .starts-at))
       (both (meet (p .written .ends-at) (q .written .ends-at)) (both (meet (p .written .splits-at) (q .written .splits-at)) (first (meet (p .told) (q .told)))))),
 )
+
+pub page-build-one : OneOutcome 3 page-build-kinds.ps page-build-kinds.r page-build-reads.Post
+page-build-one κs a z z' ws ws' p q = (meet (p .answer) (q .answer), first (meet (p .page) (q .page)))
+
+pub page-read-one : OneOutcome 4 page-read-kinds.ps page-read-kinds.r page-read-reads.Post
+page-read-one κs a z z' ws ws' p q =
+    (meet (p .answer) (q .answer), over (both (meet (p .told) (q .told)) (both (meet (p .map) (q .map)) (first (meet (p .setup) (q .setup))))))

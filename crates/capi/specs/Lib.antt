@@ -1,3 +1,4 @@
 pub mod Loads
 pub mod Lines
 pub mod LineWords
+pub mod Pages

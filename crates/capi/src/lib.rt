@@ -22,6 +22,7 @@ mod elf_told;
 pub mod line_words;
 mod lines;
 mod options;
+pub mod pages;
 
 // ---- loads
 

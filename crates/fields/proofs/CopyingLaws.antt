@@ -70,3 +70,17 @@ sets-whole [] [] e = refl
 sets-whole [] (x ∷ l) e = absurd (omega arith)
 sets-whole (v ∷ vs) [] e = absurd (omega arith)
 sets-whole (v ∷ vs) (x ∷ l) e = sets-behind vs l v 0 ∙ ap (λ (t : List ℕ). v ∷ t) (sets-whole vs l (omega arith))
+
+-- ---- stores from a place on, one after the other
+
+-- one more: the byte i, at p
+pub stored-next : (vs l : List ℕ) (p i : ℕ) (q j : ℕ) → q ≡ suc p → j ≡ suc i → i < length vs → sets (set l p (getD vs i 0)) q (drop j vs) ≡ sets l p (drop i vs)
+stored-next vs l p i q j eq ej h = rw (eq, ej, drop-cons vs i 0 h)
+
+-- nothing is left to store where either list has ended
+pub stored-done : (vs l : List ℕ) (at p i : ℕ) → p ≡ at + i → min (at + length vs) (length l) ≤ p → sets l p (drop i vs) ≡ l
+stored-done vs l at p i e h = split (decLe (length vs) i)
+  where
+    split : Dec (length vs ≤ i) → sets l p (drop i vs) ≡ l
+    split (yes q) = rw (drop-of-length-le vs q)
+    split (no n) = sets-out (drop i vs) l p (omega arith)

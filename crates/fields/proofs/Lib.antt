@@ -6,4 +6,7 @@ pub mod RangesLaws
 pub mod RowsLaws
 pub mod RowsBack
 pub mod WholeRows
+pub mod EveryLaws
+pub mod ApartLaws
+pub mod AreRowsLaws
 pub mod Outcomes

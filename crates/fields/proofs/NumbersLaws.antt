@@ -1,14 +1,17 @@
 -- Laws of little-endian numbers, over the width.
 use Prim.Native.Nat.{ℕ, zero, suc, _+_, _-_, _≤_, _<_, _*_, _/_, _%_, _^_, min}
-use mathlib.Core.Path.{_≡_, refl, ap, sym, _∙_, subst⁻¹, subst₂}
+use mathlib.Core.Path.{_≡_, refl, ap, sym, _∙_, subst, subst⁻¹, subst₂}
+use mathlib.Core.Bool.{true}
 use mathlib.Core.List.{List, _++_}
 use native.Mathlib.Omega.{arith}
 use native.Mathlib.Decide.{decLe}
-use native.Mathlib.Nat.{pow-suc, one-le-pow, pow-le-pow-right, lt-of-lt-of-le, mod-one, mod-eq-of-lt}
+use native.Mathlib.Nat.{pow-suc, one-le-pow, pow-le-pow-right, lt-of-lt-of-le, mod-one, mod-eq-of-lt, mod-lt, div-one, div-eq-of-lt, div-add-mod, div-div-eq-div-mul, not-le-of-lt}
+use borrow.Author.Tests.{lt-ltb, le-ltb, ltb-true, eq-eqb, ne-eqb}
 use lib.Arith.{mod-mul}
+use lib.Dec.{eqb, ltb}
 use lib.ListN.{length, getD, set, List·getD-append, List·getD-eq-default}
 use lib.Seq.{sets}
-use Rattle.fields.specs.Numbers.{le, ReadAs, leBytes, HasBytes, a-byte}
+use Rattle.fields.specs.Numbers.{le, ReadAs, leBytes, fits, HasBytes, a-byte}
 use Rattle.fields.proofs.CopyingLaws.{sets-out, sets-none}
 use Rattle.fields.proofs.HasBytesLaws.{stored-at}
 
@@ -102,3 +105,34 @@ put-done s p v end h = split (decLe end p)
     split : Dec (end ≤ p) → sets s p (leBytes (end - p) v) ≡ s
     split (yes low) = let none : end - p ≡ 0 = omega arith in sets-none (leBytes (end - p) v) s p (length-le-bytes (end - p) v ∙ none)
     split (no high) = sets-out (leBytes (end - p) v) s p (omega arith)
+
+-- ---- a number that fits n bytes: asked by dividing it n times by 256
+
+pub fits-small : (n v : ℕ) → fits n v ≡ true → v < 256 ^ n
+unfolding fits
+fits-small n v e = ltb-true v (256 ^ n) e
+
+pub small-fits : (n v : ℕ) → v < 256 ^ n → fits n v ≡ true
+unfolding fits
+small-fits n v h = lt-ltb v (256 ^ n) h
+
+pub divided-none : (v : ℕ) {n : ℕ} → n ≡ 0 → v ≡ v / 256 ^ n
+divided-none v e = rw (e, div-one v)
+
+pub divided-next : (v i : ℕ) {rest : ℕ} → rest ≡ v / 256 ^ i → rest / 256 ≡ v / 256 ^ suc i
+divided-next v i e = rw (e, div-div-eq-div-mul v (256 ^ i) 256, pow-suc 256 i)
+
+quotient-none : (v m : ℕ) → 0 < m → v / m ≡ 0 → v < m
+quotient-none v m pos e =
+    subst (λ (k : ℕ). k < m) (sym (ap (λ (q : ℕ). m * q + v % m) e ∙ mul-none m (v % m)) ∙ div-add-mod v m) (mod-lt v pos)
+  where
+    mul-none : (m r : ℕ) → m * 0 + r ≡ r
+    mul-none m r = omega arith
+
+pub divided-fits : (n v : ℕ) {rest m : ℕ} → rest ≡ v / 256 ^ n → m ≡ n → eqb rest 0 ≡ fits m v
+unfolding fits
+divided-fits n v {rest} {m} e en = rw en (split (decLe (256 ^ n) v))
+  where
+    split : Dec (256 ^ n ≤ v) → eqb rest 0 ≡ ltb v (256 ^ n)
+    split (yes h) = ne-eqb rest 0 (λ z. not-le-of-lt (quotient-none v (256 ^ n) (one-le-pow n 256 (omega arith)) (sym e ∙ z)) h) ∙ sym (le-ltb v (256 ^ n) h)
+    split (no h) = eq-eqb rest 0 (e ∙ div-eq-of-lt (omega arith)) ∙ sym (lt-ltb v (256 ^ n) (omega arith))

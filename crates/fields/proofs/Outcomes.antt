@@ -36,6 +36,14 @@ use Rattle.fields.proofs.copying.lesser.Kinds as lesser-kinds
 use Rattle.fields.proofs.copying.lesser.Reads as lesser-reads
 use Rattle.fields.proofs.copying.copy.Kinds as copy-kinds
 use Rattle.fields.proofs.copying.copy.Reads as copy-reads
+use Rattle.fields.proofs.numbers.is_within.Kinds as is-within-kinds
+use Rattle.fields.proofs.numbers.is_within.Reads as is-within-reads
+use Rattle.fields.proofs.ranges.are_apart.Kinds as are-apart-kinds
+use Rattle.fields.proofs.ranges.are_apart.Reads as are-apart-reads
+use Rattle.fields.proofs.rows.are_rows.Kinds as are-rows-kinds
+use Rattle.fields.proofs.rows.are_rows.Reads as are-rows-reads
+use Rattle.fields.proofs.copying.put.Kinds as put-kinds
+use Rattle.fields.proofs.copying.put.Reads as put-reads
 
 pub wide-one : OneOutcome 0 wide-kinds.ps wide-kinds.r wide-reads.Post
 wide-one κs a z z' ws ws' p q = (meet p q, refl)
@@ -87,3 +95,15 @@ lesser-one κs a z z' ws ws' p q = (meet p q, refl)
 
 pub copy-one : OneOutcome 2 copy-kinds.ps copy-kinds.r copy-reads.Post
 copy-one κs a z z' ws ws' p q = (refl, first (meet p q))
+
+pub is-within-one : OneOutcome 0 is-within-kinds.ps is-within-kinds.r is-within-reads.Post
+is-within-one κs a z z' ws ws' p q = (meet p q, refl)
+
+pub are-apart-one : OneOutcome 0 are-apart-kinds.ps are-apart-kinds.r are-apart-reads.Post
+are-apart-one κs a z z' ws ws' p q = (meet p q, refl)
+
+pub are-rows-one : OneOutcome 2 are-rows-kinds.ps are-rows-kinds.r are-rows-reads.Post
+are-rows-one κs a z z' ws ws' p q = (meet p q, refl)
+
+pub put-one : OneOutcome 2 put-kinds.ps put-kinds.r put-reads.Post
+put-one κs a z z' ws ws' p q = (refl, first (meet p q))

@@ -1,8 +1,11 @@
 -- Rows of numbers in one list, their fields in turn, and the little-endian bytes they take.
+use mathlib.Core.Bool.{Bool, _&&_}
 use mathlib.Core.List.{List, [], _∷_, _++_}
 use Prim.Native.Nat.{ℕ, zero, suc, _+_, _%_, _^_, _<_, min}
+use lib.Dec.{eqb}
 use lib.ListN.{length, getD}
-use Rattle.fields.specs.Numbers.{le, leBytes}
+use Rattle.fields.specs.Numbers.{le, leBytes, fits}
+use Rattle.fields.specs.Every.{every}
 
 -- the width of the i-th number, where the fields of a row have these widths; a width above 8 counts as 8
 unfoldable pub fieldWidth : List ℕ → ℕ → ℕ
@@ -32,3 +35,7 @@ rowLength (w ∷ ws) = min w 8 + rowLength ws
 pub data RowsFit (width : ℕ → ℕ) : List ℕ → ℕ → Type 0 where
   fit-none : {i : ℕ} → RowsFit width [] i
   fit-one : {v i : ℕ} {vs : List ℕ} → v < 256 ^ width i → RowsFit width vs (suc i) → RowsFit width (v ∷ vs) i
+
+-- are these numbers whole rows, each number fitting its field?
+unfoldable pub areRows : List ℕ → List ℕ → Bool
+areRows widths vs = eqb (length vs % length widths) 0 && every (λ (i : ℕ). fits (fieldWidth widths i) (getD vs i 0)) (length vs)

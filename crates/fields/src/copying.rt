@@ -2,6 +2,7 @@
 ghost use mathlib.Core.Path.{_≡_};
 ghost use Prim.Native.Nat.{min};
 ghost use lib.Seq.{sets};
+use crate::ranges;
 
 pub fn lesser(a: usize, b: usize) -> usize
     ensures { λ r. ⌜ r ≡ min a b ⌝ }
@@ -17,6 +18,20 @@ pub fn copy(dst: &mut [u8], src: &[u8])
     let mut i = 0;
     while i < n {
         dst[i] = src[i];
+        i += 1;
+    }
+}
+
+// Stores src from a place of dst on, as far as dst goes.
+pub fn put(dst: &mut [u8], at: u64, src: &[u8])
+    ensures { λ _. ⌜ now (dst .exit) ≡ sets (now (dst .entry)) at (now (src .entry)) ⌝ }
+{
+    let end = ranges::sum_up_to(dst.len() as u64, at, src.len() as u64);
+    let mut p = at;
+    let mut i = 0;
+    while p < end {
+        dst[p as usize] = src[i];
+        p += 1;
         i += 1;
     }
 }

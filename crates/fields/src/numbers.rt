@@ -2,7 +2,7 @@
 ghost use mathlib.Core.Path.{_≡_};
 ghost use Prim.Native.Nat.{_+_, min};
 ghost use lib.Seq.{sets};
-ghost use Rattle.fields.specs.Numbers.{ReadAs, leBytes};
+ghost use Rattle.fields.specs.Numbers.{ReadAs, fits, leBytes};
 use crate::ranges;
 
 // A byte as a wide number.
@@ -46,6 +46,20 @@ pub fn read_le(s: &[u8], at: u64, width: u64) -> u64
         v = v * 256 + byte_at(s, at, n - i);
     }
     v
+}
+
+// Does a number fit `width` bytes?
+pub fn is_within(v: u64, width: u64) -> bool
+    ensures { λ r. ⌜ r ≡ fits (min width 8) v ⌝ }
+{
+    let n = bytes_of(width);
+    let mut left = v;
+    let mut i: u64 = 0;
+    while i < n {
+        left = left / 256;
+        i += 1;
+    }
+    left == 0
 }
 
 pub fn read_u16(s: &[u8], at: u64) -> u64

@@ -3,7 +3,7 @@
 ghost use mathlib.Core.Path.{_≡_};
 ghost use lib.ListN.{length};
 ghost use lib.Seq.{sets};
-ghost use Rattle.fields.specs.Rows.{fieldWidth, rowsBytes, rowsNumbers};
+ghost use Rattle.fields.specs.Rows.{fieldWidth, rowsBytes, rowsNumbers, areRows};
 use crate::numbers;
 use crate::ranges;
 
@@ -16,6 +16,26 @@ pub(crate) fn field_width(widths: &[u64], i: usize) -> u64
     }
     let field = i % widths.len();
     numbers::bytes_of(widths[field])
+}
+
+// Are these numbers whole rows, each number fitting its field?
+pub fn are_rows(widths: &[u64], numbers: &[u64]) -> bool
+    ensures { λ r. ⌜ r ≡ areRows (now (widths .entry)) (now (numbers .entry)) ⌝ }
+{
+    if widths.len() == 0 {
+        return numbers.len() == 0;
+    }
+    if numbers.len() % widths.len() != 0 {
+        return false;
+    }
+    let mut i = 0;
+    while i < numbers.len() {
+        if !numbers::is_within(numbers[i], field_width(widths, i)) {
+            return false;
+        }
+        i += 1;
+    }
+    true
 }
 
 // Writes the numbers at a place, as far as the slice goes.

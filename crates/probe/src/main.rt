@@ -7,6 +7,7 @@ mod line_words;
 mod lines;
 mod loads;
 mod mapped;
+mod pages;
 mod telling;
 
 // The longest body of a question: an image and a guest of 1 MiB each, and room for the rest.
@@ -32,6 +33,8 @@ fn answer(body: &[u8], guest: &mut [u8]) {
         6 | 7 => loads::load_with_map(body, guest),
         8 => lines::loading_with_map(body, guest),
         9 => line_words::read(body),
+        10 => pages::build(body, guest),
+        11 => pages::read(body, guest),
         _ => telling::malformed(b"no such kind"),
     }
 }

@@ -90,10 +90,36 @@ fn see(before: &[u8], after: &[u8]) -> Seen {
     seen
 }
 
+// The same of memory that held one byte everywhere.
+fn see_filled(before: u8, after: &[u8]) -> Seen {
+    let mut seen = Seen {
+        sum: 0,
+        changed: 0,
+        first: 0,
+        last: 0,
+    };
+    let mut i = 0;
+    while i < after.len() {
+        seen = with_byte(seen, i as u64, before, after[i]);
+        i += 1;
+    }
+    seen
+}
+
 pub fn guest(before: &[u8], after: &[u8]) {
     let seen = see(before, after);
+    tell_seen(seen, after.len());
+}
+
+// A page that held one byte everywhere.
+pub fn page(before: u8, after: &[u8]) {
+    let seen = see_filled(before, after);
+    tell_seen(seen, after.len());
+}
+
+fn tell_seen(seen: Seen, len: usize) {
     word(b" guest");
-    number(after.len() as u64);
+    number(len as u64);
     number(seen.sum);
     number(seen.changed);
     number(seen.first);

@@ -1,6 +1,10 @@
-//! The setup header of a bzImage, as `arch/x86/include/uapi/asm/bootparam.h` of Linux lays it out.
+//! The setup header of a bzImage and the zero page, as `arch/x86/include/uapi/asm/bootparam.h` of Linux lays them out.
 
 use crate::entry::SETUP_HEADER_SIZE;
+
+mod zero_page;
+
+pub use zero_page::*;
 
 /// The header that stands at 1F1 hex of the image. Its fields may lie at odd places: copy one out to look at it.
 #[repr(C, packed)]

@@ -8,6 +8,7 @@ mod line;
 mod load;
 mod maps;
 mod note;
+mod page;
 mod text;
 mod words;
 
@@ -26,6 +27,7 @@ pub fn random(area: Area, rng: &mut Rng) -> Question {
         Area::Line => Question::Line(line::calls(rng)),
         Area::LineLoad => Question::LineLoad(load::question(rng)),
         Area::Words => Question::Words(words::question(rng)),
+        Area::Page => page::question(rng),
     }
 }
 

@@ -5,6 +5,7 @@ mod image;
 mod line;
 mod maps;
 mod note;
+mod page;
 mod words;
 
 use crate::generate::headers;
@@ -26,5 +27,6 @@ fn over_whole_slices(area: Area) -> Box<dyn Iterator<Item = Question>> {
         Area::Line => Box::new(line::line().map(Question::Line)),
         Area::LineLoad => Box::new(line::line_load().map(Question::LineLoad)),
         Area::Words => Box::new(words::words().map(Question::Words)),
+        Area::Page => Box::new(page::page()),
     }
 }

@@ -1,0 +1,10 @@
+pub mod MapLaws
+pub mod ReadingLaws
+pub mod BuildingLaws
+pub mod PartsLaws
+pub mod PlacesAgree
+pub mod NoSharedAddress
+pub mod Refusals
+pub mod PageSet
+pub mod ReadBack
+pub mod Outcomes
