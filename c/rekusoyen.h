@@ -82,8 +82,12 @@ enum rekusoyen_answer {
     /* limits of what is lent */
     REKUSOYEN_SLICE_TOO_LONG = 60,                 /* an image or guest memory of more than 2^40 bytes */
     REKUSOYEN_BAD_LIST = 61,                       /* ends that fall or of which the last is not the length of the values; part of a row,
-                                                    * or a number that does not fit its field */
+                                                    * or a number that does not fit its field; a state that no call wrote */
     REKUSOYEN_NO_ROOM = 62,                        /* a buffer that has not its one size, or an output too short for the line */
+
+    /* a load in steps */
+    REKUSOYEN_NO_BUDGET = 63,                      /* a budget of 0 */
+    REKUSOYEN_LENT_CHANGED = 64,                   /* the image's length, guest memory's or the map is not the first step's */
 
     /* the words of a line */
     REKUSOYEN_UNCLOSED_QUOTE = 71,                 /* the number of quotes is odd */
@@ -133,8 +137,10 @@ enum rekusoyen_answer {
     ROW(NO_BOOT_ARGS_INSERTED, "The line has init arguments alone.") \
     ROW(NULL_TERMINATOR, "The line has a zero byte.") \
     ROW(SLICE_TOO_LONG, "The image or guest memory has more than 2^40 bytes.") \
-    ROW(BAD_LIST, "A list of ends is not rising or does not end where the values do, or a list of rows has part of a row or a number that does not fit its field.") \
+    ROW(BAD_LIST, "A list of ends is not rising or does not end where the values do, or a list of rows has part of a row or a number that does not fit its field, or a list holds no state.") \
     ROW(NO_ROOM, "A lent output has no room, or another size than it must have.") \
+    ROW(NO_BUDGET, "The budget of a step is 0.") \
+    ROW(LENT_CHANGED, "The length of the image or of guest memory, or the map, is not that of the load's first step.") \
     ROW(UNCLOSED_QUOTE, "A quote of the line is not closed.") \
     ROW(TOO_FEW_PLACES, "A list has fewer places than the line has words.") \
     ROW(BAD_PAGE_SIZE, "The boot page has another size than 4,096 bytes.") \
@@ -166,10 +172,11 @@ static inline const char *rekusoyen_answer_sentence(uint32_t answer)
 
 /*
  * The stack that a call uses at the most, beside what memcpy and memset themselves use: a load of an image, a note walk or a
- * boot page, and a call on a line. Measured on x86-64, a load of an image or of a line, which keep the map there, uses less than 1,408 bytes, and every
- * other call less than 640.
+ * boot page, a step of a load, and a call on a line. Measured on x86-64, a load of an image or of a line, which keep the map there, uses less than
+ * 1,408 bytes, a step, which hands its state on there, less than 4,096, and every other call less than 640.
  */
 #define REKUSOYEN_LOAD_STACK_SIZE ((size_t)2048)
+#define REKUSOYEN_STEP_STACK_SIZE ((size_t)8192)
 #define REKUSOYEN_LINE_STACK_SIZE ((size_t)4096)
 
 /* ---- loads */
@@ -255,6 +262,57 @@ uint32_t rekusoyen_elf_load(
     uint64_t *out, size_t out_len);
 
 /*
+ * A load of an ELF image in steps, each with a budget of bytes: rekusoyen_elf_begin writes the state of a load that is not begun, and each call of
+ * rekusoyen_elf_step copies at most its budget. The state is the caller's, a list of REKUSOYEN_ELF_STATE numbers; the library keeps nothing else. It may be
+ * copied, and the load goes on from the copy.
+ */
+#define REKUSOYEN_ELF_STATE 49
+#define REKUSOYEN_ELF_STEP_OUT 9
+
+/*
+ * Begins a load: writes its state, over whatever the list held. Flags, offset and highmem are those of rekusoyen_elf_load.
+ *
+ * Refusals:
+ *   NO_ROOM  state_len is not REKUSOYEN_ELF_STATE
+ */
+uint32_t rekusoyen_elf_begin(
+    uint64_t *state, size_t state_len,
+    uint32_t flags, uint64_t offset, uint64_t highmem);
+
+/*
+ * A step of a load: copies exactly the smaller of its budget and what is still to be written, segments in file order and each from its first byte.
+ * Headers and notes cost nothing; the first step looks at all of them before it copies anything, and a load that is refused copies nothing.
+ *
+ *   guest, map, image  as of rekusoyen_elf_load; their lengths and the map are the same in every step
+ *   state              what rekusoyen_elf_begin or the last step wrote
+ *   budget             how many bytes may be copied
+ *   out                REKUSOYEN_ELF_STEP_OUT places: the bytes copied; 1 where the load answers, and else 0; the answer's number, 0 where the
+ *                      load is accepted or has not answered; and the six values of rekusoyen_elf_load, 0 where it is not accepted
+ *
+ * The load answers in the first step at which the budgets add up to all bytes that rekusoyen_elf_load would write, and its answer is that of
+ * rekusoyen_elf_load. Each step after that repeats the answer and copies nothing. Between two steps guest memory is as rekusoyen_elf_load would have
+ * left it after as many bytes. Where the image's bytes change between steps, or somebody else writes to guest memory, a step still copies no
+ * more than its budget and changes no byte in a hole; what it copies is then not what rekusoyen_elf_load would have.
+ *
+ * Refusals of the call, which is then no step:
+ *   NO_ROOM         state_len is not REKUSOYEN_ELF_STATE, or out_len is not REKUSOYEN_ELF_STEP_OUT
+ *   BAD_LIST        the state holds a number that no call writes at its place: no stage, no option, no PVH code or no answer
+ *   SLICE_TOO_LONG  image_len or guest_len is above REKUSOYEN_LONGEST_SLICE
+ *   BAD_MAP         the map is not good
+ *   NO_BUDGET       the budget is 0
+ *   LENT_CHANGED    image_len, guest_len or the map is not the first step's
+ *
+ * Leaves, accepted: in guest the bytes copied, in state the new state, in out the nine values. Leaves, refused: all as it was.
+ */
+uint32_t rekusoyen_elf_step(
+    uint8_t *guest, size_t guest_len,
+    const uint64_t *map, size_t map_len,
+    const uint8_t *image, size_t image_len,
+    uint64_t *state, size_t state_len,
+    uint64_t budget,
+    uint64_t *out, size_t out_len);
+
+/*
  * Walks over the notes of an ELF image until the one that holds the PVH entry: type 18, and the name `Xen` and a zero.
  *
  *   image     the whole file
@@ -316,6 +374,41 @@ uint32_t rekusoyen_bzimage_load(
     uint32_t flags, uint64_t offset, uint64_t highmem,
     uint64_t *out, size_t out_len,
     uint8_t *header, size_t header_len);
+
+/*
+ * A load of a bzImage in steps. Its state is a list of REKUSOYEN_BZIMAGE_STATE numbers and REKUSOYEN_SETUP_HEADER_SIZE bytes, which hold the setup header
+ * once the load is accepted and zeros before. All else is as of rekusoyen_elf_begin and rekusoyen_elf_step.
+ */
+#define REKUSOYEN_BZIMAGE_STATE 45
+#define REKUSOYEN_BZIMAGE_STEP_OUT 5
+
+/*
+ * Begins a load. Flags, offset and highmem are those of rekusoyen_bzimage_load.
+ *
+ * Refusals:
+ *   NO_ROOM  state_len is not REKUSOYEN_BZIMAGE_STATE, or header_len is not REKUSOYEN_SETUP_HEADER_SIZE
+ */
+uint32_t rekusoyen_bzimage_begin(
+    uint64_t *state, size_t state_len,
+    uint8_t *header, size_t header_len,
+    uint32_t flags, uint64_t offset, uint64_t highmem);
+
+/*
+ * A step of a load.
+ *
+ *   out  REKUSOYEN_BZIMAGE_STEP_OUT places: the bytes copied; 1 where the load answers, and else 0; the answer's number, 0 where the load is
+ *        accepted or has not answered; and the two values of rekusoyen_bzimage_load, 0 where it is not accepted
+ *
+ * Refusals of the call, which is then no step: NO_ROOM for state_len, header_len and out_len, then those of rekusoyen_elf_step.
+ */
+uint32_t rekusoyen_bzimage_step(
+    uint8_t *guest, size_t guest_len,
+    const uint64_t *map, size_t map_len,
+    const uint8_t *image, size_t image_len,
+    uint64_t *state, size_t state_len,
+    uint8_t *header, size_t header_len,
+    uint64_t budget,
+    uint64_t *out, size_t out_len);
 
 /* ---- the boot page */
 

@@ -21,6 +21,7 @@ int main(int count, char **words)
     test_line_bytes();
     test_line_output();
     test_maps();
+    test_steps();
     test_line_words();
     test_long_slices();
     test_empty_slices();

@@ -21,6 +21,7 @@
 static uint8_t line[REKUSOYEN_LINE_SIZE], other_line[REKUSOYEN_LINE_SIZE];
 static uint8_t guest[64], setup_header[REKUSOYEN_SETUP_HEADER_SIZE];
 static uint64_t out[REKUSOYEN_ELF_LOAD_OUT], rows[REKUSOYEN_PAGE_READ_ROWS];
+static uint64_t state[REKUSOYEN_ELF_STATE], step_out[REKUSOYEN_ELF_STEP_OUT];
 static uint8_t page[REKUSOYEN_PAGE_SIZE];
 static struct image elf, bzimage;
 static const uint8_t text[] = "text";
@@ -40,6 +41,16 @@ static uint32_t elf_load(void)
 {
     return rekusoyen_elf_load(
         guest, sizeof guest, ranges, RANGES, elf.bytes, elf.size, 0, 0, 0, out, REKUSOYEN_ELF_LOAD_OUT);
+}
+
+/* The first step, which looks at all headers and copies; the call of elf_begin before it uses less. */
+static uint32_t elf_step(void)
+{
+    const uint32_t answer = rekusoyen_elf_begin(state, REKUSOYEN_ELF_STATE, 0, 0, 0);
+    if (answer != REKUSOYEN_ACCEPTED)
+        return answer;
+    return rekusoyen_elf_step(
+        guest, sizeof guest, ranges, RANGES, elf.bytes, elf.size, state, REKUSOYEN_ELF_STATE, 8, step_out, REKUSOYEN_ELF_STEP_OUT);
 }
 
 static uint32_t elf_note(void)
@@ -129,6 +140,7 @@ static const struct {
     size_t limit;
 } calls[] = {
     {"rekusoyen_elf_load", elf_load, REKUSOYEN_LOAD_STACK_SIZE},
+    {"rekusoyen_elf_step", elf_step, REKUSOYEN_STEP_STACK_SIZE},
     {"rekusoyen_elf_note", elf_note, REKUSOYEN_LOAD_STACK_SIZE},
     {"rekusoyen_bzimage_load", bzimage_load, REKUSOYEN_LOAD_STACK_SIZE},
     {"rekusoyen_page_build", page_build, REKUSOYEN_LOAD_STACK_SIZE},

@@ -42,6 +42,12 @@ pub const PVH_PRESENT: u64 = 2;
 /// How many places the list of an ELF load's values has.
 pub const ELF_LOAD_OUT: usize = 6;
 
+/// How many numbers hold the state of an ELF load in steps.
+pub const ELF_STATE: usize = 49;
+
+/// How many places the list of a step's values has.
+pub const ELF_STEP_OUT: usize = 9;
+
 /// How many places the list of a note walk's values has.
 pub const ELF_NOTE_OUT: usize = 5;
 
@@ -72,6 +78,39 @@ extern "C" {
         flags: u32,
         offset: u64,
         highmem: u64,
+        out: *mut u64,
+        out_len: usize,
+    ) -> u32;
+
+    /// Begins an ELF load in steps: writes its state, [`ELF_STATE`] numbers.
+    ///
+    /// # Safety
+    ///
+    /// As of [`rekusoyen_elf_load`].
+    pub fn rekusoyen_elf_begin(
+        state: *mut u64,
+        state_len: usize,
+        flags: u32,
+        offset: u64,
+        highmem: u64,
+    ) -> u32;
+
+    /// A step of an ELF load, which copies at most `budget` bytes. `out` has [`ELF_STEP_OUT`] places: the bytes copied, 1 where the load answers,
+    /// the answer's number, and the values of a load.
+    ///
+    /// # Safety
+    ///
+    /// As of [`rekusoyen_elf_load`].
+    pub fn rekusoyen_elf_step(
+        guest: *mut u8,
+        guest_len: usize,
+        map: *const u64,
+        map_len: usize,
+        image: *const u8,
+        image_len: usize,
+        state: *mut u64,
+        state_len: usize,
+        budget: u64,
         out: *mut u64,
         out_len: usize,
     ) -> u32;

@@ -123,6 +123,52 @@ pub(crate) fn elf_load(
     answered(number).map(|()| out)
 }
 
+/// The state of an ELF load in steps that is not begun.
+pub(crate) fn elf_begin(options: Options) -> [u64; entry::ELF_STATE] {
+    let mut state = [0; entry::ELF_STATE];
+    // SAFETY: the state is an array of Rust's, borrowed by this call alone. The function does not keep its pointer.
+    let refused = unsafe {
+        entry::rekusoyen_elf_begin(
+            state.as_mut_ptr(),
+            state.len(),
+            options.flags(),
+            number(options.offset),
+            number(options.highmem),
+        )
+    };
+    debug_assert_eq!(refused, 0, "a state of the right size is refused");
+    state
+}
+
+/// A step of an ELF load: the bytes copied, 1 where the load answers, the answer's number, and the values of a load.
+pub(crate) fn elf_step(
+    guest: Guest,
+    image: &[u8],
+    state: &mut [u64; entry::ELF_STATE],
+    budget: u64,
+) -> Result<[u64; entry::ELF_STEP_OUT], Refusal> {
+    let mut out = [0; entry::ELF_STEP_OUT];
+    let map = guest.map();
+    // SAFETY: the guest's bytes can be read and written and nobody else has them, by `Guest`; the others are slices of Rust's, state and output
+    // borrowed by this call alone. The function keeps none of the pointers.
+    let number = unsafe {
+        entry::rekusoyen_elf_step(
+            guest.start,
+            guest.length,
+            map.as_ptr(),
+            map.len(),
+            image.as_ptr(),
+            image.len(),
+            state.as_mut_ptr(),
+            state.len(),
+            budget,
+            out.as_mut_ptr(),
+            out.len(),
+        )
+    };
+    answered(number).map(|()| out)
+}
+
 /// Walks the notes of `p_filesz` bytes at `p_offset`: PVH, its address, how many note headers were read, and the place and size of the
 /// descriptor.
 pub(crate) fn elf_note(

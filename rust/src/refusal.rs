@@ -95,10 +95,14 @@ refusals! {
     NullTerminator = 51,
     /// The image or guest memory has more than 2^40 bytes.
     SliceTooLong = 60,
-    /// A list of ends is not rising or does not end where the values do, or a list of rows has part of a row or a number that does not fit its field.
+    /// A list of ends is not rising or does not end where the values do, or a list of rows has part of a row or a number that does not fit its field, or a list holds no state.
     BadList = 61,
     /// A lent output has no room, or another size than it must have.
     NoRoom = 62,
+    /// The budget of a step is 0.
+    NoBudget = 63,
+    /// The length of the image or of guest memory, or the map, is not that of the load's first step.
+    LentChanged = 64,
     /// A quote of the line is not closed.
     UnclosedQuote = 71,
     /// A list has fewer places than the line has words.

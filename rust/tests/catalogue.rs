@@ -109,6 +109,8 @@ fn sizes_flags_and_codes_are_those_of_the_header() {
         ("REKUSOYEN_PVH_PRESENT", format!("{}u", entry::PVH_PRESENT)),
         ("REKUSOYEN_MAP_RANGES", entry::MAP_RANGES.to_string()),
         ("REKUSOYEN_ELF_LOAD_OUT", entry::ELF_LOAD_OUT.to_string()),
+        ("REKUSOYEN_ELF_STATE", entry::ELF_STATE.to_string()),
+        ("REKUSOYEN_ELF_STEP_OUT", entry::ELF_STEP_OUT.to_string()),
         ("REKUSOYEN_ELF_NOTE_OUT", entry::ELF_NOTE_OUT.to_string()),
         (
             "REKUSOYEN_BZIMAGE_LOAD_OUT",

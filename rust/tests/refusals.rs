@@ -7,7 +7,7 @@ use rekusoyen::boot_page;
 use rekusoyen::cmdline::{self, Cmdline};
 use rekusoyen::loader::bootparam::boot_e820_entry;
 use rekusoyen::loader::{
-    self, bzimage, elf, load_cmdline_into, load_cmdline_into_map, BzImage, Elf,
+    self, bzimage, elf, load_cmdline_into, load_cmdline_into_map, BzImage, Elf, ElfSteps, StepError,
 };
 use rekusoyen::words::words;
 use rekusoyen::{GuestAddress, Map, Refusal};
@@ -25,6 +25,7 @@ fn every_refusal_is_reached_and_has_its_number() {
         of_bzimage(),
         of_lines(),
         of_maps(),
+        of_steps(),
         of_pages(),
         of_long(),
         of_words(),
@@ -221,6 +222,20 @@ fn of_maps() -> Reached {
     answers
         .map(|answer| (Refusal::BadMap, answer.unwrap_err().number()))
         .to_vec()
+}
+
+fn of_steps() -> Reached {
+    let map = Map::whole(8);
+    let guest = &mut [0; 8][..];
+    let mut load = ElfSteps::new(None, None);
+    let none = load.step(guest, &map, &[], 0);
+    load.step(guest, &map, &[], 1).expect("a step");
+    let changed = load.step(guest, &map, &[0], 1);
+    let number = |step: Result<_, StepError>| Some(step.unwrap_err().refusal().number());
+    vec![
+        (Refusal::NoBudget, number(none)),
+        (Refusal::LentChanged, number(changed)),
+    ]
 }
 
 /// Slices of one byte more than 2^40. The memory is mapped and never touched, so that it costs nothing.

@@ -97,6 +97,26 @@ fn load_into(
     Ok(Loaded { load, end, pvh })
 }
 
+/// Every byte that an accepted load writes, in its order: the address in guest memory, and the place in the image.
+pub fn writes(image: &[u8], offset: Option<u64>) -> Vec<(usize, usize)> {
+    let mut writes = Vec::new();
+    let Ok(header) = read_header(image) else {
+        return writes;
+    };
+    for segment in program_headers(image, &header).unwrap_or_default() {
+        if segment.kind == TYPE_LOAD {
+            let address = u128::from(segment.address) + u128::from(offset.unwrap_or(0));
+            for byte in 0..segment.file_size {
+                writes.push((
+                    address as usize + byte as usize,
+                    (segment.offset + byte) as usize,
+                ));
+            }
+        }
+    }
+    writes
+}
+
 fn read_header(image: &[u8]) -> Result<Header, Refusal> {
     if image.len() < HEADER_SIZE {
         return Err(Refusal::ReadElfHeader);

@@ -16,6 +16,7 @@ pub mod page;
 pub mod refusal;
 pub mod rules;
 pub mod separator;
+pub mod steps;
 pub mod text;
 pub mod words;
 

@@ -38,6 +38,8 @@ pub enum Refusal {
     SliceTooLong = 60,
     BadList = 61,
     NoRoom = 62,
+    NoBudget = 63,
+    LentChanged = 64,
     UnclosedQuote = 71,
     TooFewPlaces = 72,
     BadPageSize = 73,

@@ -45,6 +45,9 @@ pub enum Refusal {
     SliceTooLong,
     BadList,
     NoRoom,
+    // a load in steps
+    NoBudget,
+    LentChanged,
     // the words of a line
     UnclosedQuote,
     TooFewPlaces,
@@ -95,6 +98,8 @@ pub fn number(refusal: Refusal) -> u32
         Refusal::SliceTooLong => 60,
         Refusal::BadList => 61,
         Refusal::NoRoom => 62,
+        Refusal::NoBudget => 63,
+        Refusal::LentChanged => 64,
         Refusal::UnclosedQuote => 71,
         Refusal::TooFewPlaces => 72,
         Refusal::BadPageSize => 73,

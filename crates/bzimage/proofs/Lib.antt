@@ -10,3 +10,5 @@ pub mod Refusals
 pub mod Returned
 pub mod Outcomes
 pub mod EmptyKernel
+pub mod StepsLaws
+pub mod InSteps

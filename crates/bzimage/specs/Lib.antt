@@ -6,3 +6,4 @@ pub mod Copied
 pub mod Returned
 pub mod Answers
 pub mod WholeSlice
+pub mod Steps

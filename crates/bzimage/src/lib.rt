@@ -21,6 +21,7 @@ mod header;
 mod kernel;
 mod plan;
 pub mod setup_header;
+pub mod steps;
 
 // A kernel that is loaded: where it begins in guest memory, and where it ends.
 pub struct KernelLoaderResult {

@@ -63,7 +63,7 @@ fn validate(image: &[u8], memory: Memory, offset: Given, highmem: Given) -> Gate
     answers::require(gate, room, Refusal::ReadBzImageCompressedKernel)
 }
 
-fn refused(refusal: Refusal) -> Outcome
+pub(crate) fn refused(refusal: Refusal) -> Outcome
     ensures { λ r. ⌜ r ≡ refusedAs refusal ⌝ }
 {
     Outcome {

@@ -1,4 +1,10 @@
 pub mod LoadsLaws
+pub mod RefusalsLaws
+pub mod ListsLaws
+pub mod StatesLaws
+pub mod ElfStepsLaws
+pub mod BzImageStepsLaws
+pub mod StateKept
 pub mod LinesLaws
 pub mod HoldsLaws
 pub mod LinesStay

@@ -8,6 +8,14 @@ use Rattle.capi.proofs.rekusoyen_elf_note.Kinds as elf-note-kinds
 use Rattle.capi.proofs.rekusoyen_elf_note.Reads as elf-note-reads
 use Rattle.capi.proofs.rekusoyen_bzimage_load.Kinds as bzimage-load-kinds
 use Rattle.capi.proofs.rekusoyen_bzimage_load.Reads as bzimage-load-reads
+use Rattle.capi.proofs.rekusoyen_elf_begin.Kinds as elf-begin-kinds
+use Rattle.capi.proofs.rekusoyen_elf_begin.Reads as elf-begin-reads
+use Rattle.capi.proofs.rekusoyen_elf_step.Kinds as elf-step-kinds
+use Rattle.capi.proofs.rekusoyen_elf_step.Reads as elf-step-reads
+use Rattle.capi.proofs.rekusoyen_bzimage_begin.Kinds as bzimage-begin-kinds
+use Rattle.capi.proofs.rekusoyen_bzimage_begin.Reads as bzimage-begin-reads
+use Rattle.capi.proofs.rekusoyen_bzimage_step.Kinds as bzimage-step-kinds
+use Rattle.capi.proofs.rekusoyen_bzimage_step.Reads as bzimage-step-reads
 use Rattle.capi.proofs.rekusoyen_line_new.Kinds as line-new-kinds
 use Rattle.capi.proofs.rekusoyen_line_new.Reads as line-new-reads
 use Rattle.capi.proofs.rekusoyen_line_try_from.Kinds as line-try-from-kinds
@@ -52,6 +60,23 @@ elf-note-one κs a z z' ws ws' p q = (meet (p .answer) (q .answer), over (over (
 pub bzimage-load-one : OneOutcome 5 bzimage-load-kinds.ps bzimage-load-kinds.r bzimage-load-reads.Post
 bzimage-load-one κs a z z' ws ws' p q =
     (meet (p .answer) (q .answer), both (meet (p .memory) (q .memory)) (over (over (over (over (over (both (meet (p .told) (q .told)) (first (meet (p .setup) (q .setup))))))))))
+
+pub elf-begin-one : OneOutcome 1 elf-begin-kinds.ps elf-begin-kinds.r elf-begin-reads.Post
+elf-begin-one κs a z z' ws ws' p q = (meet (p .answer) (q .answer), first (meet (p .state) (q .state)))
+
+pub elf-step-one : OneOutcome 5 elf-step-kinds.ps elf-step-kinds.r elf-step-reads.Post
+elf-step-one κs a z z' ws ws' p q =
+    (meet (p .answer) (q .answer), both (meet (p .memory) (q .memory)) (over (over (both (meet (p .state) (q .state)) (over (first (meet (p .told) (q .told))))))))
+
+pub bzimage-begin-one : OneOutcome 2 bzimage-begin-kinds.ps bzimage-begin-kinds.r bzimage-begin-reads.Post
+bzimage-begin-one κs a z z' ws ws' p q = (meet (p .answer) (q .answer), both (meet (p .state) (q .state)) (first (meet (p .setup) (q .setup))))
+
+pub bzimage-step-one : OneOutcome 6 bzimage-step-kinds.ps bzimage-step-kinds.r bzimage-step-reads.Post
+bzimage-step-one κs a z z' ws ws' p q = (
+  meet (p .answer) (q .answer),
+  both (meet (p .memory) (q .memory))
+      (over (over (both (meet (p .state) (q .state)) (both (meet (p .setup) (q .setup)) (over (first (meet (p .told) (q .told)))))))),
+)
 
 pub line-new-one : OneOutcome 1 line-new-kinds.ps line-new-kinds.r line-new-reads.Post
 line-new-one κs a z z' ws ws' p q = (meet (p .answer) (q .answer), first (meet (p .line) (q .line)))

@@ -2,3 +2,8 @@ pub mod Loads
 pub mod Lines
 pub mod LineWords
 pub mod Pages
+pub mod Refusals
+pub mod States
+pub mod ElfSteps
+pub mod BzImageSteps
+pub mod StateKept

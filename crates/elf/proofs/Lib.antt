@@ -13,6 +13,9 @@ pub mod NotesLengthened
 pub mod Lengthened
 pub mod MoreRoom
 pub mod WholeSlice
+pub mod PortionsLaws
+pub mod StepsLaws
+pub mod InSteps
 pub mod HolesUntouched
 pub mod KernelEnd
 pub mod FileSizeStays

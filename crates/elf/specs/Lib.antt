@@ -5,6 +5,8 @@ pub mod Survey
 pub mod Pouring
 pub mod Load
 pub mod WholeSlice
+pub mod Portions
+pub mod Steps
 pub mod Verdict
 pub mod Rules
 pub mod FirstNote

@@ -4,4 +4,7 @@ pub mod RoomLaws
 pub mod StreamLaws
 pub mod PartLaws
 pub mod LoadingLaws
+pub mod PartsLaws
+pub mod StepsLaws
+pub mod InSteps
 pub mod Outcomes

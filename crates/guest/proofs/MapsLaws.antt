@@ -13,7 +13,7 @@ use Rattle.answers.specs.Pick.{pick}
 use Rattle.answers.proofs.BoolLaws.{both-held, one-held, right-holds}
 use Rattle.fields.specs.Ranges.{liesWithin}
 use Rattle.fields.proofs.RangesLaws.{within-sum, sum-within}
-use Rattle.guest.specs.Maps.{Range, rangesFrom, inRange, inRanges, goodRange, goodRanges, floorOf, goodMap, wholeMap, mostRanges, rangesOf}
+use Rattle.guest.specs.Maps.{Range, rangesFrom, inRange, inRanges, goodRange, goodRanges, floorOf, goodMap, wholeMap, mostRanges, rangesOf, sameFrom, sameMap}
 use Rattle.guest.specs.declared.Map.{Map}
 
 -- ---- range by range, as a loop goes: of k ranges from i on, the first and the rest
@@ -168,3 +168,45 @@ whole-good len = by (eqb len 0) refl
 -- n bytes lie in the one range that is the whole slice where they lie within it
 pub whole-in : (len address n : ℕ) → 0 < len → address + n ≤ len → inRanges (rangesOf (wholeMap len)) address n ≡ true
 whole-in len address n some fits = rw (whole-ranges len some) (in-here (0, len) [] address n (omega arith) (omega arith))
+
+-- ---- the same ranges, as a loop asks
+
+module _ (starts sizes starts' sizes' : List ℕ) (i : ℕ) where
+  pub same-next : {k : ℕ} (j next : ℕ) → k ≡ suc j → next ≡ suc i → getD starts i 0 ≡ getD starts' i 0 → getD sizes i 0 ≡ getD sizes' i 0
+      → sameFrom k starts sizes starts' sizes' i ≡ sameFrom j starts sizes starts' sizes' next
+  unfolding sameFrom
+  same-next j next ek en es ez = rw (ek, en, eq-eqb (getD starts i 0) (getD starts' i 0) es, eq-eqb (getD sizes i 0) (getD sizes' i 0) ez)
+
+  pub other-start : {k : ℕ} (j : ℕ) → k ≡ suc j → (getD starts i 0 ≡ getD starts' i 0 → ⊥) → sameFrom k starts sizes starts' sizes' i ≡ false
+  unfolding sameFrom
+  other-start j ek ne = rw (ek, ne-eqb (getD starts i 0) (getD starts' i 0) ne)
+
+  pub other-size : {k : ℕ} (j : ℕ) → k ≡ suc j → getD starts i 0 ≡ getD starts' i 0 → (getD sizes i 0 ≡ getD sizes' i 0 → ⊥)
+      → sameFrom k starts sizes starts' sizes' i ≡ false
+  unfolding sameFrom
+  other-size j ek es ne = rw (ek, eq-eqb (getD starts i 0) (getD starts' i 0) es, ne-eqb (getD sizes i 0) (getD sizes' i 0) ne)
+
+  pub same-end : {k : ℕ} → k ≡ 0 → sameFrom k starts sizes starts' sizes' i ≡ true
+  unfolding sameFrom
+  same-end ek = rw ek
+
+-- a map is the same as itself
+same-self : (k : ℕ) (starts sizes : List ℕ) (i : ℕ) → sameFrom k starts sizes starts sizes i ≡ true
+unfolding sameFrom
+same-self zero starts sizes i = refl
+same-self (suc k) starts sizes i =
+    rw (eq-eqb (getD starts i 0) (getD starts i 0) refl, eq-eqb (getD sizes i 0) (getD sizes i 0) refl) (same-self k starts sizes (suc i))
+
+pub map-self : (map : Map) → sameMap map map ≡ true
+unfolding sameMap
+map-self map = rw (eq-eqb (map .count) (map .count) refl) (same-self (min (map .count) mostRanges) (map .starts) (map .sizes) 0)
+
+-- the counts are compared first
+pub same-counted : (a b : Map) {k : ℕ} → a .count ≡ b .count → k ≡ min (a .count) mostRanges
+    → sameMap a b ≡ sameFrom k (a .starts) (a .sizes) (b .starts) (b .sizes) 0
+unfolding sameMap
+same-counted a b ec ek = rw (eq-eqb (a .count) (b .count) ec, ek)
+
+pub other-count : (a b : Map) → (a .count ≡ b .count → ⊥) → sameMap a b ≡ false
+unfolding sameMap
+other-count a b ne = rw (ne-eqb (a .count) (b .count) ne)

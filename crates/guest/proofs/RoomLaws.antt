@@ -5,7 +5,7 @@ use mathlib.Core.List.{List, _∷_, _++_}
 use Prim.Native.Nat.{ℕ, _+_, _≤_, _<_}
 use native.Mathlib.Omega.{arith}
 use native.Mathlib.Decide.{decLe}
-use borrow.Author.Tests.{le-leb}
+use borrow.Author.Tests.{le-leb, eq-eqb}
 use lib.ListN.{length, length-append}
 use Rattle.answers.specs.Keeping.{Widens, end, stays}
 use Rattle.answers.specs.Tests.{Test, asked, askedAll}
@@ -17,12 +17,12 @@ use Rattle.answers.proofs.TestsLaws.{holds-passed}
 use Rattle.fields.specs.Ranges.{liesWithin}
 use Rattle.fields.proofs.RangesLaws.{within-sum, sum-within, sum-beyond}
 use Rattle.guest.specs.Maps.{rangesOf, inRanges, goodMap, wholeMap}
-use Rattle.guest.specs.Room.{room, Grows, Larger, slice-longer, range-added, last-longer, in-turn, memoryOf, wholeOf}
+use Rattle.guest.specs.Room.{room, sameMemory, Grows, Larger, slice-longer, range-added, last-longer, in-turn, memoryOf, wholeOf}
 use Rattle.guest.specs.Lent.{memoryTests, lentTests}
 use Rattle.guest.specs.Sizes.{allowed, longest}
 use Rattle.guest.specs.declared.Map.{Map}
 use Rattle.guest.specs.declared.Memory.{Memory}
-use Rattle.guest.proofs.MapsLaws.{in-part, in-added, in-lengthened, whole-good, whole-in}
+use Rattle.guest.proofs.MapsLaws.{in-part, in-added, in-lengthened, whole-good, whole-in, map-self}
 
 -- what has room lies within the slice and in one range, and the other way round
 pub room-means : (m : Memory) (address n : ℕ) → room m address n ≡ true → (address + n ≤ m .size) × (inRanges (rangesOf (m .map)) address n ≡ true)
@@ -57,6 +57,11 @@ pub room-part : (m : Memory) (address n at k : ℕ) → room m address n ≡ tru
 room-part m address n at k e from below =
     let is = room-means m address n e in
     means-room m at k (omega arith) (in-part (rangesOf (m .map)) address n at k (is .1) from below)
+
+-- a memory is the same as itself
+pub memory-self : (m : Memory) → sameMemory m m ≡ true
+unfolding sameMemory
+memory-self m = rw (eq-eqb (m .size) (m .size) refl) (map-self (m .map))
 
 -- ---- memory that grows
 

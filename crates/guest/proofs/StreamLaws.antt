@@ -1,5 +1,5 @@
 -- Laws of the stream and of its pouring.
-use Prim.Native.Nat.{ℕ, suc, _+_, _-_, _≤_, _<_}
+use Prim.Native.Nat.{ℕ, zero, suc, _+_, _-_, _≤_, _<_}
 use mathlib.Core.Path.{_≡_, sym, _∙_, refl, ap}
 use mathlib.Core.Bool.{true, false, true≢false}
 use mathlib.Core.List.{List, [], _∷_, _++_}
@@ -7,7 +7,7 @@ use native.Mathlib.Omega.{arith}
 use native.Mathlib.Decide.{decLe, ℕ-discrete}
 use borrow.Author.Tests.{eq-eqb, ne-eqb}
 use lib.Dec.{eqb}
-use lib.ListN.{length, set, getD, length-set, List·getD-eq-default}
+use lib.ListN.{length, set, getD, take, drop, length-set, List·getD-eq-default}
 use lib.Seq.{sets, set-append-left, getD-set-same, getD-set-other}
 use Rattle.answers.specs.Pick.{pick}
 use Rattle.fields.proofs.CopyingLaws.{sets-out}
@@ -43,6 +43,17 @@ pour-past vs guest a h = pour-at vs guest a ∙ sets-out vs guest a h
 pub inside-append : {m : Memory} {ps qs : List Poke} → Inside m ps → Inside m qs → Inside m (ps ++ qs)
 inside-append none rest = rest
 inside-append (goes h more) rest = goes h (inside-append more rest)
+
+-- a part of a stream that goes into memory does too
+pub inside-take : {m : Memory} (n : ℕ) {ps : List Poke} → Inside m ps → Inside m (take n ps)
+inside-take zero h = none
+inside-take (suc n) none = none
+inside-take (suc n) (goes h rest) = goes h (inside-take n rest)
+
+pub inside-drop : {m : Memory} (n : ℕ) {ps : List Poke} → Inside m ps → Inside m (drop n ps)
+inside-drop zero h = h
+inside-drop (suc n) none = none
+inside-drop (suc n) (goes h rest) = inside-drop n rest
 
 -- bytes that have room together have it one by one
 pub inside-at : (m : Memory) (a n : ℕ) (vs : List ℕ) → room m a n ≡ true → length vs ≤ n → Inside m (streamAt a vs)

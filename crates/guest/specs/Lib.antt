@@ -5,3 +5,6 @@ pub mod Room
 pub mod Lent
 pub mod Stream
 pub mod Loading
+pub mod Parts
+pub mod Steps
+pub mod Runs

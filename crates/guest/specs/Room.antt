@@ -3,15 +3,20 @@ use mathlib.Core.Path.{_≡_}
 use mathlib.Core.Bool.{Bool, true, _&&_}
 use mathlib.Core.List.{List, [], _∷_, _++_}
 use Prim.Native.Nat.{ℕ, _≤_}
+use lib.Dec.{eqb}
 use lib.ListN.{length}
 use Rattle.fields.specs.Ranges.{liesWithin}
-use Rattle.guest.specs.Maps.{Range, rangesOf, inRanges, wholeMap}
+use Rattle.guest.specs.Maps.{Range, rangesOf, inRanges, wholeMap, sameMap}
 use Rattle.guest.specs.declared.Map.{Map}
 use Rattle.guest.specs.declared.Memory.{Memory}
 
 -- do n bytes at an address lie in guest memory, within its slice and in one of its ranges? The sum is the whole number
 unfoldable pub room : Memory → ℕ → ℕ → Bool
 room m address n = liesWithin (m .size) address n && inRanges (rangesOf (m .map)) address n
+
+-- are two memories the same, by size and range by range?
+unfoldable pub sameMemory : Memory → Memory → Bool
+sameMemory m m' = eqb (m .size) (m' .size) && sameMap (m .map) (m' .map)
 
 -- every room of the one memory is room of the other
 pub record Grows (m m' : Memory) : Type 0 where

@@ -3,7 +3,7 @@ ghost use mathlib.Core.Path.{_≡_};
 ghost use Prim.Native.Nat.{min, _≤_};
 ghost use lib.Dec.{leb};
 ghost use lib.ListN.{getD};
-ghost use Rattle.guest.specs.Maps.{mostRanges, inRange, inRanges, rangesOf, goodRange, goodMap, floorOf, wholeMap, everySecond, rangeCount, mapOf};
+ghost use Rattle.guest.specs.Maps.{mostRanges, inRange, inRanges, rangesOf, goodRange, goodMap, floorOf, wholeMap, sameMap, everySecond, rangeCount, mapOf};
 use crate::Map;
 use fields::ranges;
 
@@ -104,6 +104,31 @@ pub fn whole(len: u64) -> Map
         starts: starts,
         sizes: sizes,
     }
+}
+
+// Are two maps the same, range by range?
+pub fn same(a: Map, b: Map) -> bool
+    ensures { λ r. ⌜ r ≡ sameMap a b ⌝ }
+{
+    if a.count != b.count {
+        return false;
+    }
+    let count = listed(a.count);
+    let starts = a.starts;
+    let sizes = a.sizes;
+    let other_starts = b.starts;
+    let other_sizes = b.sizes;
+    let mut i: usize = 0;
+    while i < count {
+        if starts[i] != other_starts[i] {
+            return false;
+        }
+        if sizes[i] != other_sizes[i] {
+            return false;
+        }
+        i += 1;
+    }
+    true
 }
 
 // A number of a list; past its end it is 0.

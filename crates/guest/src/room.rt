@@ -1,6 +1,6 @@
 // Room in guest memory.
 ghost use mathlib.Core.Path.{_≡_};
-ghost use Rattle.guest.specs.Room.{room};
+ghost use Rattle.guest.specs.Room.{room, sameMemory};
 use crate::GuestAddress;
 use crate::Memory;
 use crate::maps;
@@ -15,4 +15,16 @@ pub fn has_room(memory: Memory, address: GuestAddress, n: u64) -> bool
     }
     let map = memory.map;
     maps::in_map(map, address.0, n)
+}
+
+// Are two memories the same?
+pub fn is_same(a: Memory, b: Memory) -> bool
+    ensures { λ r. ⌜ r ≡ sameMemory a b ⌝ }
+{
+    if a.size != b.size {
+        return false;
+    }
+    let first = a.map;
+    let second = b.map;
+    maps::same(first, second)
 }

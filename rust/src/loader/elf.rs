@@ -225,15 +225,21 @@ pub(super) fn loaded(
     image: &[u8],
     options: Options,
 ) -> std::result::Result<(KernelLoaderResult, Option<PvhNote>), Refusal> {
-    let [kernel_load, kernel_end, code, address, place, size] =
-        lent::elf_load(guest, image, options)?;
+    lent::elf_load(guest, image, options).map(by_values)
+}
+
+/// What the values of an accepted load say.
+pub(super) fn by_values(
+    values: [u64; entry::ELF_LOAD_OUT],
+) -> (KernelLoaderResult, Option<PvhNote>) {
+    let [kernel_load, kernel_end, code, address, place, size] = values;
     let kernel = KernelLoaderResult {
         kernel_load: GuestAddress(kernel_load),
         kernel_end,
         pvh_boot_cap: pvh(code, address),
         setup_header: None,
     };
-    Ok((kernel, pvh_note(code, place, size)))
+    (kernel, pvh_note(code, place, size))
 }
 
 /// What a walk over notes finds.

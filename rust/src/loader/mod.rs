@@ -21,6 +21,7 @@ pub mod elf;
 #[cfg(feature = "vm-memory")]
 mod guest_memory;
 mod over_map;
+mod portions;
 mod told;
 
 pub use bzimage::*;
@@ -28,6 +29,7 @@ pub use elf::*;
 #[cfg(feature = "vm-memory")]
 pub use guest_memory::{load_cmdline, KernelLoader};
 pub use over_map::{load_cmdline_into_map, MapError};
+pub use portions::{ElfSteps, Portions, Step, StepError};
 
 /// Why a kernel or a line was not put into guest memory.
 #[derive(Clone, Copy, Debug, PartialEq, Eq)]

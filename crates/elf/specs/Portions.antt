@@ -1,0 +1,37 @@
+-- The parts of a load, one for each program header. They are told of any image: a later step may meet another one than the first.
+use Prim.Native.Nat.{ℕ, _+_, _*_}
+use mathlib.Core.List.{List}
+use lib.Dec.{eqb}
+use lib.ListN.{length}
+use Rattle.answers.specs.Pick.{pick}
+use Rattle.fields.specs.Ranges.{liesWithin, fits64}
+use Rattle.guest.specs.Parts.{noPart, keptPart, portionOf}
+use Rattle.guest.specs.Loading.{Plan}
+use Rattle.guest.specs.declared.Memory.{Memory}
+use Rattle.guest.specs.declared.Part.{Part}
+use Rattle.guest.specs.declared.Portion.{Portion}
+use Rattle.elf.specs.Header.{e-phoff, e-phnum, programHeaderSize}
+use Rattle.elf.specs.ProgramHeaders.{headerOf}
+use Rattle.elf.specs.declared.program_headers.ProgramHeader.{ProgramHeader}
+
+-- of a program header: its file bytes, where it is loadable, at its address moved by shift
+unfoldable pub headerPart : ℕ → ProgramHeader → Part
+headerPart shift h =
+    pick (eqb (h .«p_type») 1)
+    (pick (fits64 shift (h .«p_paddr» .0))
+    (record { address = record { 0 = shift + h .«p_paddr» .0 }; place = h .«p_offset»; size = h .«p_filesz» })
+    noPart)
+    noPart
+
+-- of program header i, where it stands in the image
+unfoldable pub partAt : List ℕ → ℕ → ℕ → Part
+partAt image shift i =
+    pick (liesWithin (length image) (e-phoff image) (programHeaderSize * i + programHeaderSize)) (headerPart shift (headerOf image i)) noPart
+
+-- where its bytes stand in the image and have room
+abbrev pub partOf : List ℕ → Memory → ℕ → ℕ → Part
+partOf image m shift i = keptPart (length image) m (partAt image shift i)
+
+-- a portion from program header i on, q bytes of whose segment are done
+abbrev pub portionAt : List ℕ → Memory → ℕ → ℕ → ℕ → ℕ → Plan Portion
+portionAt image m shift i q budget = portionOf (e-phnum image) image (partOf image m shift) i q budget

@@ -1,0 +1,10 @@
+-- `steps::fresh`: its memory is the whole of an empty slice.
+use borrow.Author.Needs.{needs}
+use Rattle.guest.proofs.steps.fresh.Statement.{statement}
+use Rattle.guest.proofs.steps.fresh.Tie as tie
+
+returns : tie.Need-returns
+returns c = rw (c .whole .ensures)
+
+pub fresh-spec : {M : Type 1} → statement M
+fresh-spec = tie.close (tie.spec (λ c κs. search needs) returns)
