@@ -89,6 +89,9 @@ enum rekusoyen_answer {
     REKUSOYEN_NO_BUDGET = 63,                      /* a budget of 0 */
     REKUSOYEN_LENT_CHANGED = 64,                   /* the image's length, guest memory's or the map is not the first step's */
 
+    /* a job of the desk program */
+    REKUSOYEN_BAD_JOB = 70,                        /* a job that breaks a rule: the desk program alone answers it */
+
     /* the words of a line */
     REKUSOYEN_UNCLOSED_QUOTE = 71,                 /* the number of quotes is odd */
     REKUSOYEN_TOO_FEW_PLACES = 72,                 /* a list has fewer places than the line has words */
@@ -98,8 +101,22 @@ enum rekusoyen_answer {
     REKUSOYEN_TOO_MANY_ROWS = 74,                  /* more than 128 rows */
     REKUSOYEN_BAD_ROW = 75,                        /* a row that is empty, ends at 2^64 or above, or overlaps an earlier one */
 
+    /* the PVH start block */
+    REKUSOYEN_BAD_PART = 76,                       /* a part that is not in one range of guest memory, or overlaps
+                                                    * another, or a list of 2^32 rows or more */
+
     /* guest memory */
-    REKUSOYEN_BAD_MAP = 77                         /* a map that is not good: see the map of guest memory below */
+    REKUSOYEN_BAD_MAP = 77,                        /* a map that is not good: see the map of guest memory below */
+
+    /* arm64 */
+    REKUSOYEN_SHORT_IMAGE = 81,                    /* an image of fewer than 64 bytes */
+    REKUSOYEN_BAD_IMAGE_MAGIC = 82,                /* the magic number is not 644D5241 hex */
+    REKUSOYEN_BIG_ENDIAN_IMAGE = 83,               /* bit 0 of the flags is set */
+    REKUSOYEN_NO_IMAGE_SIZE = 84,                  /* the image size is 0 */
+    REKUSOYEN_UNALIGNED_BASE = 85,                 /* the base is not a multiple of 2 MiB */
+    REKUSOYEN_IMAGE_START_WRAPS = 86,              /* base and text offset add up to 2^64 or more */
+    REKUSOYEN_NO_ROOM_FOR_IMAGE = 87,              /* the file has no room in one range of guest memory */
+    REKUSOYEN_IMAGE_END_WRAPS = 88                 /* start and image size add up to 2^64 or more */
 };
 
 /* Every answer with what it means: ROW(NAME, SENTENCE), the name without its prefix. For tables of a program's own. */
@@ -141,12 +158,22 @@ enum rekusoyen_answer {
     ROW(NO_ROOM, "A lent output has no room, or another size than it must have.") \
     ROW(NO_BUDGET, "The budget of a step is 0.") \
     ROW(LENT_CHANGED, "The length of the image or of guest memory, or the map, is not that of the load's first step.") \
+    ROW(BAD_JOB, "The job's table of contents or its bodies are not as they must be.") \
     ROW(UNCLOSED_QUOTE, "A quote of the line is not closed.") \
     ROW(TOO_FEW_PLACES, "A list has fewer places than the line has words.") \
     ROW(BAD_PAGE_SIZE, "The boot page has another size than 4,096 bytes.") \
     ROW(TOO_MANY_ROWS, "The memory map has more than 128 rows.") \
     ROW(BAD_ROW, "A row of the memory map is empty, ends at 2^64 or above, or overlaps an earlier one.") \
-    ROW(BAD_MAP, "A map is not good: its ranges must be 16 at most, not empty, rising, not touching, and within guest memory.")
+    ROW(BAD_PART, "A part of the start block leaves guest memory or one range of its map, overlaps another, or a list has 2^32 rows or more.") \
+    ROW(BAD_MAP, "A map is not good: its ranges must be 16 at most, not empty, rising, not touching, and within guest memory.") \
+    ROW(SHORT_IMAGE, "The image is shorter than the header of an arm64 Image.") \
+    ROW(BAD_IMAGE_MAGIC, "The image has not the magic number of an arm64 Image.") \
+    ROW(BIG_ENDIAN_IMAGE, "The arm64 Image is big-endian.") \
+    ROW(NO_IMAGE_SIZE, "The arm64 Image says no size.") \
+    ROW(UNALIGNED_BASE, "The base address is not a multiple of 2 MiB.") \
+    ROW(IMAGE_START_WRAPS, "The address of the arm64 Image does not fit into 64 bits.") \
+    ROW(NO_ROOM_FOR_IMAGE, "The file of the arm64 Image has no room in one range of guest memory.") \
+    ROW(IMAGE_END_WRAPS, "The end of the arm64 Image does not fit into 64 bits.")
 
 /* The name of an answer without its prefix, as "READ_KERNEL_IMAGE"; NULL of a number that no function answers. */
 static inline const char *rekusoyen_answer_name(uint32_t answer)

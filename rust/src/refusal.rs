@@ -103,6 +103,8 @@ refusals! {
     NoBudget = 63,
     /// The length of the image or of guest memory, or the map, is not that of the load's first step.
     LentChanged = 64,
+    /// The job's table of contents or its bodies are not as they must be.
+    BadJob = 70,
     /// A quote of the line is not closed.
     UnclosedQuote = 71,
     /// A list has fewer places than the line has words.
@@ -113,8 +115,26 @@ refusals! {
     TooManyRows = 74,
     /// A row of the memory map is empty, ends at 2^64 or above, or overlaps an earlier one.
     BadRow = 75,
+    /// A part of the start block leaves guest memory or one range of its map, overlaps another, or a list has 2^32 rows or more.
+    BadPart = 76,
     /// A map is not good: its ranges must be 16 at most, not empty, rising, not touching, and within guest memory.
     BadMap = 77,
+    /// The image is shorter than the header of an arm64 Image.
+    ShortImage = 81,
+    /// The image has not the magic number of an arm64 Image.
+    BadImageMagic = 82,
+    /// The arm64 Image is big-endian.
+    BigEndianImage = 83,
+    /// The arm64 Image says no size.
+    NoImageSize = 84,
+    /// The base address is not a multiple of 2 MiB.
+    UnalignedBase = 85,
+    /// The address of the arm64 Image does not fit into 64 bits.
+    ImageStartWraps = 86,
+    /// The file of the arm64 Image has no room in one range of guest memory.
+    NoRoomForImage = 87,
+    /// The end of the arm64 Image does not fit into 64 bits.
+    ImageEndWraps = 88,
 }
 
 impl Refusal {

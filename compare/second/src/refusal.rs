@@ -40,12 +40,22 @@ pub enum Refusal {
     NoRoom = 62,
     NoBudget = 63,
     LentChanged = 64,
+    BadJob = 70,
     UnclosedQuote = 71,
     TooFewPlaces = 72,
     BadPageSize = 73,
     TooManyRows = 74,
     BadRow = 75,
+    BadPart = 76,
     BadMap = 77,
+    ShortImage = 81,
+    BadImageMagic = 82,
+    BigEndianImage = 83,
+    NoImageSize = 84,
+    UnalignedBase = 85,
+    ImageStartWraps = 86,
+    NoRoomForImage = 87,
+    ImageEndWraps = 88,
 }
 
 impl Refusal {

@@ -48,6 +48,8 @@ pub enum Refusal {
     // a load in steps
     NoBudget,
     LentChanged,
+    // a job of the desk program
+    BadJob,
     // the words of a line
     UnclosedQuote,
     TooFewPlaces,
@@ -55,8 +57,19 @@ pub enum Refusal {
     BadPageSize,
     TooManyRows,
     BadRow,
+    // the PVH start block
+    BadPart,
     // guest memory
     BadMap,
+    // arm64
+    ShortImage,
+    BadImageMagic,
+    BigEndianImage,
+    NoImageSize,
+    UnalignedBase,
+    ImageStartWraps,
+    NoRoomForImage,
+    ImageEndWraps,
 }
 
 // The number of a refusal, for callers that take numbers.
@@ -100,12 +113,22 @@ pub fn number(refusal: Refusal) -> u32
         Refusal::NoRoom => 62,
         Refusal::NoBudget => 63,
         Refusal::LentChanged => 64,
+        Refusal::BadJob => 70,
         Refusal::UnclosedQuote => 71,
         Refusal::TooFewPlaces => 72,
         Refusal::BadPageSize => 73,
         Refusal::TooManyRows => 74,
         Refusal::BadRow => 75,
+        Refusal::BadPart => 76,
         Refusal::BadMap => 77,
+        Refusal::ShortImage => 81,
+        Refusal::BadImageMagic => 82,
+        Refusal::BigEndianImage => 83,
+        Refusal::NoImageSize => 84,
+        Refusal::UnalignedBase => 85,
+        Refusal::ImageStartWraps => 86,
+        Refusal::NoRoomForImage => 87,
+        Refusal::ImageEndWraps => 88,
     }
 }
 

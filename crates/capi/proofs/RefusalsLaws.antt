@@ -51,22 +51,35 @@ refusal-back refusal.BadList = refl
 refusal-back refusal.NoRoom = refl
 refusal-back refusal.NoBudget = refl
 refusal-back refusal.LentChanged = refl
+refusal-back refusal.BadJob = refl
 refusal-back refusal.UnclosedQuote = refl
 refusal-back refusal.TooFewPlaces = refl
 refusal-back refusal.BadPageSize = refl
 refusal-back refusal.TooManyRows = refl
 refusal-back refusal.BadRow = refl
+refusal-back refusal.BadPart = refl
 refusal-back refusal.BadMap = refl
+refusal-back refusal.ShortImage = refl
+refusal-back refusal.BadImageMagic = refl
+refusal-back refusal.BigEndianImage = refl
+refusal-back refusal.NoImageSize = refl
+refusal-back refusal.UnalignedBase = refl
+refusal-back refusal.ImageStartWraps = refl
+refusal-back refusal.NoRoomForImage = refl
+refusal-back refusal.ImageEndWraps = refl
 
--- none of a list has this number
-abbrev pub NoneWith : ℕ → List Refusal → Type 0
-NoneWith n [] = Unit {0}
-NoneWith n (r ∷ rs) = (n ≡ numberOf r → ⊥) × NoneWith n rs
+-- none of a list has this number, after other facts: the shape in which a match tells that no arm was taken
+abbrev pub NoneWith : ℕ → Type 0 → List Refusal → Type 0
+NoneWith n Before [] = Before
+NoneWith n Before (r ∷ rs) = NoneWith n (Before × (n ≡ numberOf r → ⊥)) rs
 
-pub none-with : (n : ℕ) (rs : List Refusal) → NoneWith n rs → firstWith n rs ≡ refusal.BadList
+-- it keeps what was known before, and the first with this number is not among the list
+pub none-with : (n : ℕ) (Before : Type 0) (rs : List Refusal) → NoneWith n Before rs → Before × (firstWith n rs ≡ refusal.BadList)
 unfolding firstWith pick
-none-with n [] h = refl
-none-with n (r ∷ rs) h = rw (ne-eqb n (numberOf r) (h .0)) (none-with n rs (h .1))
+none-with n Before [] h = (h, refl)
+none-with n Before (r ∷ rs) h =
+    let rest = none-with n (Before × (n ≡ numberOf r → ⊥)) rs h in
+    (rest .0 .0, rw (ne-eqb n (numberOf r) (rest .0 .1)) (rest .1))
 
 -- the number of a refusal is known, and 0 is
 pub refusal-known : (r : Refusal) → isKnown (numberOf r) ≡ true
@@ -115,9 +128,19 @@ not-zero refusal.BadList = refl
 not-zero refusal.NoRoom = refl
 not-zero refusal.NoBudget = refl
 not-zero refusal.LentChanged = refl
+not-zero refusal.BadJob = refl
 not-zero refusal.UnclosedQuote = refl
 not-zero refusal.TooFewPlaces = refl
 not-zero refusal.BadPageSize = refl
 not-zero refusal.TooManyRows = refl
 not-zero refusal.BadRow = refl
+not-zero refusal.BadPart = refl
 not-zero refusal.BadMap = refl
+not-zero refusal.ShortImage = refl
+not-zero refusal.BadImageMagic = refl
+not-zero refusal.BigEndianImage = refl
+not-zero refusal.NoImageSize = refl
+not-zero refusal.UnalignedBase = refl
+not-zero refusal.ImageStartWraps = refl
+not-zero refusal.NoRoomForImage = refl
+not-zero refusal.ImageEndWraps = refl

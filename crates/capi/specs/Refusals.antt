@@ -47,12 +47,22 @@ everyRefusal =
     refusal.NoRoom ∷
     refusal.NoBudget ∷
     refusal.LentChanged ∷
+    refusal.BadJob ∷
     refusal.UnclosedQuote ∷
     refusal.TooFewPlaces ∷
     refusal.BadPageSize ∷
     refusal.TooManyRows ∷
     refusal.BadRow ∷
+    refusal.BadPart ∷
     refusal.BadMap ∷
+    refusal.ShortImage ∷
+    refusal.BadImageMagic ∷
+    refusal.BigEndianImage ∷
+    refusal.NoImageSize ∷
+    refusal.UnalignedBase ∷
+    refusal.ImageStartWraps ∷
+    refusal.NoRoomForImage ∷
+    refusal.ImageEndWraps ∷
     []
 
 -- the first of a list with this number; BadList where there is none

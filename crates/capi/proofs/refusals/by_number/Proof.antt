@@ -175,10 +175,48 @@ unfolding refusalOf firstWith pick
 returns-42 c = ap refusalOf (sym (c .match .keys42))
 
 returns-43 : tie.Need-returns-43
+unfolding refusalOf firstWith pick
+returns-43 c = ap refusalOf (sym (c .match .keys43))
+
+returns-44 : tie.Need-returns-44
+unfolding refusalOf firstWith pick
+returns-44 c = ap refusalOf (sym (c .match .keys44))
+
+returns-45 : tie.Need-returns-45
+unfolding refusalOf firstWith pick
+returns-45 c = ap refusalOf (sym (c .match .keys45))
+
+returns-46 : tie.Need-returns-46
+unfolding refusalOf firstWith pick
+returns-46 c = ap refusalOf (sym (c .match .keys46))
+
+returns-47 : tie.Need-returns-47
+unfolding refusalOf firstWith pick
+returns-47 c = ap refusalOf (sym (c .match .keys47))
+
+returns-48 : tie.Need-returns-48
+unfolding refusalOf firstWith pick
+returns-48 c = ap refusalOf (sym (c .match .keys48))
+
+returns-49 : tie.Need-returns-49
+unfolding refusalOf firstWith pick
+returns-49 c = ap refusalOf (sym (c .match .keys49))
+
+returns-50 : tie.Need-returns-50
+unfolding refusalOf firstWith pick
+returns-50 c = ap refusalOf (sym (c .match .keys50))
+
+returns-51 : tie.Need-returns-51
+unfolding refusalOf firstWith pick
+returns-51 c = ap refusalOf (sym (c .match .keys51))
+
+returns-52 : tie.Need-returns-52
+unfolding refusalOf firstWith pick
+returns-52 c = ap refusalOf (sym (c .match .keys52))
+
+returns-53 : tie.Need-returns-53
 unfolding refusalOf
-returns-43 c =
-    let rest = c .match .rest in
-    sym (none-with (c .before .args .n) everyRefusal (rest .0 .0 .0 .0 .0 .0 .0 .0 .0 .0 .0 .0 .0 .0 .0 .0 .0 .0 .0 .0 .0 .0 .0 .0 .0 .0 .0 .0 .0 .0 .0 .0 .0 .0 .0 .0 .0 .0 .0 .0 .0 .1, (rest .0 .0 .0 .0 .0 .0 .0 .0 .0 .0 .0 .0 .0 .0 .0 .0 .0 .0 .0 .0 .0 .0 .0 .0 .0 .0 .0 .0 .0 .0 .0 .0 .0 .0 .0 .0 .0 .0 .0 .0 .1, (rest .0 .0 .0 .0 .0 .0 .0 .0 .0 .0 .0 .0 .0 .0 .0 .0 .0 .0 .0 .0 .0 .0 .0 .0 .0 .0 .0 .0 .0 .0 .0 .0 .0 .0 .0 .0 .0 .0 .0 .1, (rest .0 .0 .0 .0 .0 .0 .0 .0 .0 .0 .0 .0 .0 .0 .0 .0 .0 .0 .0 .0 .0 .0 .0 .0 .0 .0 .0 .0 .0 .0 .0 .0 .0 .0 .0 .0 .0 .0 .1, (rest .0 .0 .0 .0 .0 .0 .0 .0 .0 .0 .0 .0 .0 .0 .0 .0 .0 .0 .0 .0 .0 .0 .0 .0 .0 .0 .0 .0 .0 .0 .0 .0 .0 .0 .0 .0 .0 .1, (rest .0 .0 .0 .0 .0 .0 .0 .0 .0 .0 .0 .0 .0 .0 .0 .0 .0 .0 .0 .0 .0 .0 .0 .0 .0 .0 .0 .0 .0 .0 .0 .0 .0 .0 .0 .0 .1, (rest .0 .0 .0 .0 .0 .0 .0 .0 .0 .0 .0 .0 .0 .0 .0 .0 .0 .0 .0 .0 .0 .0 .0 .0 .0 .0 .0 .0 .0 .0 .0 .0 .0 .0 .0 .1, (rest .0 .0 .0 .0 .0 .0 .0 .0 .0 .0 .0 .0 .0 .0 .0 .0 .0 .0 .0 .0 .0 .0 .0 .0 .0 .0 .0 .0 .0 .0 .0 .0 .0 .0 .1, (rest .0 .0 .0 .0 .0 .0 .0 .0 .0 .0 .0 .0 .0 .0 .0 .0 .0 .0 .0 .0 .0 .0 .0 .0 .0 .0 .0 .0 .0 .0 .0 .0 .0 .1, (rest .0 .0 .0 .0 .0 .0 .0 .0 .0 .0 .0 .0 .0 .0 .0 .0 .0 .0 .0 .0 .0 .0 .0 .0 .0 .0 .0 .0 .0 .0 .0 .0 .1, (rest .0 .0 .0 .0 .0 .0 .0 .0 .0 .0 .0 .0 .0 .0 .0 .0 .0 .0 .0 .0 .0 .0 .0 .0 .0 .0 .0 .0 .0 .0 .0 .1, (rest .0 .0 .0 .0 .0 .0 .0 .0 .0 .0 .0 .0 .0 .0 .0 .0 .0 .0 .0 .0 .0 .0 .0 .0 .0 .0 .0 .0 .0 .0 .1, (rest .0 .0 .0 .0 .0 .0 .0 .0 .0 .0 .0 .0 .0 .0 .0 .0 .0 .0 .0 .0 .0 .0 .0 .0 .0 .0 .0 .0 .0 .1, (rest .0 .0 .0 .0 .0 .0 .0 .0 .0 .0 .0 .0 .0 .0 .0 .0 .0 .0 .0 .0 .0 .0 .0 .0 .0 .0 .0 .0 .1, (rest .0 .0 .0 .0 .0 .0 .0 .0 .0 .0 .0 .0 .0 .0 .0 .0 .0 .0 .0 .0 .0 .0 .0 .0 .0 .0 .0 .1, (rest .0 .0 .0 .0 .0 .0 .0 .0 .0 .0 .0 .0 .0 .0 .0 .0 .0 .0 .0 .0 .0 .0 .0 .0 .0 .0 .1, (rest .0 .0 .0 .0 .0 .0 .0 .0 .0 .0 .0 .0 .0 .0 .0 .0 .0 .0 .0 .0 .0 .0 .0 .0 .0 .1, (rest .0 .0 .0 .0 .0 .0 .0 .0 .0 .0 .0 .0 .0 .0 .0 .0 .0 .0 .0 .0 .0 .0 .0 .0 .1, (rest .0 .0 .0 .0 .0 .0 .0 .0 .0 .0 .0 .0 .0 .0 .0 .0 .0 .0 .0 .0 .0 .0 .0 .1, (rest .0 .0 .0 .0 .0 .0 .0 .0 .0 .0 .0 .0 .0 .0 .0 .0 .0 .0 .0 .0 .0 .0 .1, (rest .0 .0 .0 .0 .0 .0 .0 .0 .0 .0 .0 .0 .0 .0 .0 .0 .0 .0 .0 .0 .0 .1, (rest .0 .0 .0 .0 .0 .0 .0 .0 .0 .0 .0 .0 .0 .0 .0 .0 .0 .0 .0 .0 .1, (rest .0 .0 .0 .0 .0 .0 .0 .0 .0 .0 .0 .0 .0 .0 .0 .0 .0 .0 .0 .1, (rest .0 .0 .0 .0 .0 .0 .0 .0 .0 .0 .0 .0 .0 .0 .0 .0 .0 .0 .1, (rest .0 .0 .0 .0 .0 .0 .0 .0 .0 .0 .0 .0 .0 .0 .0 .0 .0 .1, (rest .0 .0 .0 .0 .0 .0 .0 .0 .0 .0 .0 .0 .0 .0 .0 .0 .1, (rest .0 .0 .0 .0 .0 .0 .0 .0 .0 .0 .0 .0 .0 .0 .0 .1, (rest .0 .0 .0 .0 .0 .0 .0 .0 .0 .0 .0 .0 .0 .0 .1, (rest .0 .0 .0 .0 .0 .0 .0 .0 .0 .0 .0 .0 .0 .1, (rest .0 .0 .0 .0 .0 .0 .0 .0 .0 .0 .0 .0 .1, (rest .0 .0 .0 .0 .0 .0 .0 .0 .0 .0 .0 .1, (rest .0 .0 .0 .0 .0 .0 .0 .0 .0 .0 .1, (rest .0 .0 .0 .0 .0 .0 .0 .0 .0 .1, (rest .0 .0 .0 .0 .0 .0 .0 .0 .1, (rest .0 .0 .0 .0 .0 .0 .0 .1, (rest .0 .0 .0 .0 .0 .0 .1, (rest .0 .0 .0 .0 .0 .1, (rest .0 .0 .0 .0 .1, (rest .0 .0 .0 .1, (rest .0 .0 .1, (rest .0 .1, (rest .1, tt)))))))))))))))))))))))))))))))))))))))))))
+returns-53 c = sym (none-with (c .before .args .n) _ everyRefusal (c .match .rest) .1)
 
 pub by-number-spec : {M : Type 1} → statement M
 by-number-spec =
@@ -226,4 +264,14 @@ by-number-spec =
     returns-40
     returns-41
     returns-42
-    returns-43)
+    returns-43
+    returns-44
+    returns-45
+    returns-46
+    returns-47
+    returns-48
+    returns-49
+    returns-50
+    returns-51
+    returns-52
+    returns-53)
