@@ -1,6 +1,6 @@
 /*
  * The proved kernel loader for C and C++: ELF images with their PVH note, bzImages, and the kernel command line.
- * A program includes this header and links the static library of the crate `capi`, which `rt staticlib capi` makes; from an
+ * A program includes this header and links the static library of the crates `capi` and `capi_..`, which `tools/make-library` makes; from an
  * archive that `tools/dist` makes by pkg-config, `cc program.c $(pkg-config --cflags --libs rekusoyen)`.
  *
  * Answers. Every function answers REKUSOYEN_ACCEPTED or one refusal. Its comment lists its refusals in the order in which they

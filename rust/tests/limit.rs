@@ -62,7 +62,7 @@ const TAKEN: [(&str, &str, &str); 5] = [
     ),
     (
         "the C entry points",
-        include_str!("../../crates/capi/src/lines.rt"),
+        include_str!("../../crates/capi_lines/src/lines.rt"),
         "\npub(crate) const SIZE: usize = 24 + 2 * LIMIT;\n",
     ),
 ];

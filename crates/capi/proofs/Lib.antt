@@ -1,15 +1,2 @@
 pub mod LoadsLaws
-pub mod RefusalsLaws
-pub mod ListsLaws
-pub mod StatesLaws
-pub mod ElfStepsLaws
-pub mod BzImageStepsLaws
-pub mod StateKept
-pub mod LinesLaws
-pub mod HoldsLaws
-pub mod LinesStay
-pub mod BehindTexts
-pub mod ZerosStay
-pub mod LineWordsLaws
-pub mod PagesLaws
 pub mod Outcomes

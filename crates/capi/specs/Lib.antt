@@ -1,9 +1,1 @@
 pub mod Loads
-pub mod Lines
-pub mod LineWords
-pub mod Pages
-pub mod Refusals
-pub mod States
-pub mod ElfSteps
-pub mod BzImageSteps
-pub mod StateKept

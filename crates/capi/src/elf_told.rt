@@ -8,7 +8,7 @@ use elf::ElfNote;
 use elf::NoteAnswer;
 use elf::PvhBootCapability;
 
-pub(crate) fn pvh_code(said: PvhBootCapability) -> u64
+pub fn pvh_code(said: PvhBootCapability) -> u64
     ensures { λ r. ⌜ r ≡ pvhCode said ⌝ }
 {
     match said {
@@ -18,7 +18,7 @@ pub(crate) fn pvh_code(said: PvhBootCapability) -> u64
     }
 }
 
-pub(crate) fn pvh_address(said: PvhBootCapability) -> u64
+pub fn pvh_address(said: PvhBootCapability) -> u64
     ensures { λ r. ⌜ r ≡ pvhAddress said ⌝ }
 {
     match said {
@@ -28,7 +28,7 @@ pub(crate) fn pvh_address(said: PvhBootCapability) -> u64
     }
 }
 
-pub(crate) fn pvh_place(said: PvhBootCapability) -> u64
+pub fn pvh_place(said: PvhBootCapability) -> u64
     ensures { λ r. ⌜ r ≡ pvhPlace said ⌝ }
 {
     match said {
@@ -38,7 +38,7 @@ pub(crate) fn pvh_place(said: PvhBootCapability) -> u64
     }
 }
 
-pub(crate) fn pvh_size(said: PvhBootCapability) -> u64
+pub fn pvh_size(said: PvhBootCapability) -> u64
     ensures { λ r. ⌜ r ≡ pvhSize said ⌝ }
 {
     match said {

@@ -16,14 +16,14 @@ fn given(bit: u32, address: u64) -> Given
 }
 
 // Bit 0.
-pub(crate) fn offset(flags: u32, address: u64) -> Given
+pub fn offset(flags: u32, address: u64) -> Given
     ensures { λ r. ⌜ r ≡ offsetOf flags address ⌝ }
 {
     given(flags % 2, address)
 }
 
 // Bit 1.
-pub(crate) fn highmem(flags: u32, address: u64) -> Given
+pub fn highmem(flags: u32, address: u64) -> Given
     ensures { λ r. ⌜ r ≡ highmemOf flags address ⌝ }
 {
     given(flags / 2 % 2, address)

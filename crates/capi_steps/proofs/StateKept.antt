@@ -1,0 +1,297 @@
+-- The state of an ELF load that an entry point writes is the state that the next one reads: calls through the entry points, one after the other,
+-- are the loader's own steps.
+use Prim.Native.Nat.{ℕ, zero, suc, _+_}
+use mathlib.Core.Path.{_≡_, refl, sym, ap, subst, _∙_}
+use mathlib.Core.Bool.{Bool, true}
+use mathlib.Core.List.{List, [], _∷_, _++_}
+use native.Mathlib.Omega.{arith}
+use lib.Dec.{leb, eqb}
+use lib.ListN.{length, getD}
+use lib.Seq.{sets, length-sets}
+use borrow.Author.Tests.{eq-eqb}
+use Rattle.answers.specs.Pick.{pick}
+use Rattle.answers.specs.Catalogue.{numberOf}
+use Rattle.answers.specs.Tests.{askedAll, AllHold}
+use Rattle.answers.specs.declared.Gate.{Gate}
+use Rattle.answers.specs.declared.Gate.the-variants.{Open, Shut}
+use Rattle.answers.specs.declared.Refusal.{Refusal}
+use Rattle.answers.proofs.PickLaws.{pick-with}
+use Rattle.answers.proofs.TestsLaws.{all-open}
+use Rattle.guest.specs.Addresses.{amountOf}
+use Rattle.guest.specs.Loading.{Plan}
+use Rattle.guest.specs.Maps.{everySecond, mapOf}
+use Rattle.guest.specs.Room.{memoryOf}
+use Rattle.guest.specs.Steps as steps
+use Rattle.guest.specs.Stream.{pour}
+use Rattle.guest.specs.declared.Given.{Given}
+use Rattle.guest.specs.declared.Given.the-variants.{Nothing, At}
+use Rattle.guest.specs.declared.Map.{Map}
+use Rattle.guest.specs.declared.Memory.{Memory}
+use Rattle.guest.specs.declared.Portion.{Portion}
+use Rattle.guest.specs.declared.Stage.{Stage}
+use Rattle.guest.specs.declared.Stage.the-variants.{Fresh, Copying, Done}
+use Rattle.elf.specs.Load.{pvhCode, pvhAddress, pvhPlace, pvhSize}
+use Rattle.elf.specs.Steps.{courseOf, heldOf, steppedFrom, replyFrom, freshState}
+use Rattle.elf.specs.declared.Answer.{Answer}
+use Rattle.elf.specs.declared.Answer.the-variants.{Loaded, Refused}
+use Rattle.elf.specs.declared.PvhBootCapability.{PvhBootCapability}
+use Rattle.elf.specs.declared.PvhBootCapability.the-variants.{PvhEntryPresent, PvhEntryNotPresent, PvhEntryIgnored}
+use Rattle.elf.specs.declared.steps.State.{State}
+use Rattle.capi.specs.Loads.{givenBy}
+use Rattle.capi_steps.specs.Refusals.{refusalOf, isKnown}
+use Rattle.capi_steps.specs.States.{numbersFrom, stageCode, stageOf, givenCode, headOf}
+use Rattle.capi_steps.specs.ElfSteps.{answerNumbers, pvhOf, answerOf, answerIn, stateSize, keptOf, withState, stateIn, stateTests, ElfBegins, callTests, callGate, planIn, replyNumber, toldNumbers, stateAfter, numberBehind, leftBehind, ElfSteps}
+use Rattle.capi_steps.specs.StateKept.{Saves, StepsFrom}
+use Rattle.capi_steps.proofs.ListsLaws.{from-behind, from-front-of, laid, getD-fourth}
+use Rattle.capi_steps.proofs.RefusalsLaws.{refusal-back, refusal-known, zero-known, not-zero}
+use Rattle.capi_steps.proofs.StatesLaws.{length-numbers}
+
+-- ---- each part read back
+
+stage-back : (s : Stage) → stageOf (stageCode s) ≡ s
+unfolding stageOf stageCode pick
+stage-back Fresh = refl
+stage-back Copying = refl
+stage-back Done = refl
+
+given-back : (g : Given) → givenBy (givenCode g) (amountOf g) ≡ g
+unfolding givenBy givenCode amountOf pick
+given-back Nothing = refl
+given-back (At a) = refl
+
+pvh-back : (p : PvhBootCapability) → pvhOf (pvhCode p) (pvhAddress p) (pvhPlace p) (pvhSize p) ≡ p
+unfolding pvhOf pvhCode pvhAddress pvhPlace pvhSize pick
+pvh-back (PvhEntryPresent note) = refl
+pvh-back PvhEntryNotPresent = refl
+pvh-back PvhEntryIgnored = refl
+
+answer-length : (a : Answer) → length (answerNumbers a) ≡ 7
+unfolding answerNumbers
+answer-length (Loaded result) = refl
+answer-length (Refused r) = refl
+
+-- the answer that seven numbers are
+abbrev answerFrom : List ℕ → Answer
+answerFrom l = answerOf (getD l 0 0) (getD l 1 0) (getD l 2 0) (pvhOf (getD l 3 0) (getD l 4 0) (getD l 5 0) (getD l 6 0))
+
+answer-back : (a : Answer) → answerFrom (answerNumbers a) ≡ a
+unfolding answerNumbers answerOf pick
+answer-back (Loaded result) =
+    ap
+    (λ (p : PvhBootCapability). Loaded (record { «kernel_load» = result .«kernel_load»; «kernel_end» = result .«kernel_end»; «pvh_boot_cap» = p }))
+    (pvh-back (result .«pvh_boot_cap»))
+answer-back (Refused r) = rw (not-zero r) (ap Refused (refusal-back r))
+
+-- ---- each number passes its test
+
+stage-passes : (s : Stage) → leb (stageCode s) 2 ≡ true
+unfolding stageCode
+stage-passes Fresh = refl
+stage-passes Copying = refl
+stage-passes Done = refl
+
+given-passes : (g : Given) → leb (givenCode g) 1 ≡ true
+unfolding givenCode
+given-passes Nothing = refl
+given-passes (At a) = refl
+
+pvh-passes : (p : PvhBootCapability) → leb (pvhCode p) 2 ≡ true
+unfolding pvhCode
+pvh-passes (PvhEntryPresent note) = refl
+pvh-passes PvhEntryNotPresent = refl
+pvh-passes PvhEntryIgnored = refl
+
+code-passes : (a : Answer) → leb (getD (answerNumbers a) 3 0) 2 ≡ true
+unfolding answerNumbers
+code-passes (Loaded result) = pvh-passes (result .«pvh_boot_cap»)
+code-passes (Refused r) = refl
+
+number-passes : (a : Answer) → isKnown (getD (answerNumbers a) 0 0) ≡ true
+unfolding answerNumbers
+number-passes (Loaded result) = zero-known
+number-passes (Refused r) = refusal-known r
+
+-- ---- a state written
+
+-- a memory whose map has sixteen starts and sixteen sizes, as every map has
+record Sixteen (m : Memory) : Type 0 where
+  starts : length (m .map .starts) ≡ 16
+  sizes : length (m .map .sizes) ≡ 16
+
+module _ (st : State) (numbers : List ℕ) (size : length numbers ≡ stateSize) (full : Sixteen (st .progress .memory)) where
+  abbrev row : List ℕ
+  row = headOf (keptOf st) ++ (st .progress .memory .map .starts ++ (st .progress .memory .map .sizes ++ answerNumbers (st .answer)))
+
+  row-written : withState st numbers ≡ row
+  row-written =
+      let seven = answer-length (st .answer) in
+      laid (headOf (keptOf st)) (st .progress .memory .map .starts) (st .progress .memory .map .sizes) (answerNumbers (st .answer)) numbers refl (full .starts)
+      (full .sizes) (omega arith)
+
+  row-answer : (at n : ℕ) → at ≡ 42 + n → getD row at 0 ≡ getD (answerNumbers (st .answer)) n 0
+  row-answer at n e =
+      getD-fourth (headOf (keptOf st)) (st .progress .memory .map .starts) (st .progress .memory .map .sizes) (answerNumbers (st .answer)) at n refl (full .starts)
+      (full .sizes) e
+
+  row-starts : numbersFrom 16 row 10 ≡ st .progress .memory .map .starts
+  row-starts =
+      let behind = st .progress .memory .map .sizes ++ answerNumbers (st .answer) in
+      from-behind 16 (headOf (keptOf st)) (st .progress .memory .map .starts ++ behind) 10 0 refl
+      ∙ from-front-of 16 (st .progress .memory .map .starts) behind (full .starts)
+
+  row-sizes : numbersFrom 16 row 26 ≡ st .progress .memory .map .sizes
+  row-sizes =
+      let starts = st .progress .memory .map .starts in
+      let sizes = st .progress .memory .map .sizes in
+      let told = answerNumbers (st .answer) in
+      let sixteen = full .starts in
+      from-behind 16 (headOf (keptOf st)) (starts ++ (sizes ++ told)) 26 16 refl ∙ from-behind 16 starts (sizes ++ told) 16 0 (omega arith)
+      ∙ from-front-of 16 sizes told (full .sizes)
+
+  row-back : stateIn row ≡ st
+  row-back =
+      rw (
+        row-starts,
+        row-sizes,
+        row-answer 42 0 refl,
+        row-answer 43 1 refl,
+        row-answer 44 2 refl,
+        row-answer 45 3 refl,
+        row-answer 46 4 refl,
+        row-answer 47 5 refl,
+        row-answer 48 6 refl,
+        stage-back (st .progress .stage),
+        given-back (st .«kernel_offset»),
+        given-back (st .«highmem_start»),
+        answer-back (st .answer),
+      )
+
+  row-good : AllHold (stateTests row)
+  row-good = (
+    stage-passes (st .progress .stage),
+    (
+      given-passes (st .«kernel_offset»),
+      (
+        given-passes (st .«highmem_start»),
+        (rw (row-answer 45 3 refl) (code-passes (st .answer)), (rw (row-answer 42 0 refl) (number-passes (st .answer)), tt)),
+      ),
+    ),
+  )
+
+  written : Saves st (withState st numbers)
+  written =
+      subst (Saves st) (sym row-written)
+      (record { size = ap length (sym row-written) ∙ length-written; good = row-good; held = row-back })
+    where
+      length-written : length (withState st numbers) ≡ stateSize
+      length-written =
+          length-sets (sets (sets (sets numbers 0 (headOf (keptOf st))) 10 (st .progress .memory .map .starts)) 26 (st .progress .memory .map .sizes)) 42
+          (answerNumbers (st .answer))
+          ∙ length-sets (sets (sets numbers 0 (headOf (keptOf st))) 10 (st .progress .memory .map .starts)) 26 (st .progress .memory .map .sizes)
+          ∙ length-sets (sets numbers 0 (headOf (keptOf st))) 10 (st .progress .memory .map .starts)
+          ∙ length-sets numbers 0 (headOf (keptOf st))
+          ∙ size
+
+-- ---- the maps that a step keeps have sixteen starts and sixteen sizes
+
+length-second : (k : ℕ) (numbers : List ℕ) (at : ℕ) → length (everySecond k numbers at) ≡ k
+unfolding everySecond
+length-second zero numbers at = refl
+length-second (suc k) numbers at = ap suc (length-second k numbers (suc (suc at)))
+
+map-sixteen : (guest map : List ℕ) → Sixteen (memoryOf guest (mapOf map))
+map-sixteen guest map = record { starts = length-second 16 map 0; sizes = length-second 16 map 1 }
+
+state-sixteen : (numbers : List ℕ) → Sixteen (stateIn numbers .progress .memory)
+state-sixteen numbers = record { starts = length-numbers 16 numbers 10; sizes = length-numbers 16 numbers 26 }
+
+-- ---- a state after a step, whatever is replied
+
+module _ (numbers : List ℕ) (is : Saves (stateIn numbers) numbers) (image guest map : List ℕ) where
+  abbrev course : steps.Course Answer
+  course =
+      courseOf image (memoryOf guest (mapOf map)) (stateIn numbers .«kernel_offset») (stateIn numbers .«highmem_start»)
+
+  -- the list holds the state that a step goes to
+  abbrev Kept-after : steps.Went Answer → Type 0
+  Kept-after w = Saves (steppedFrom (stateIn numbers) w .state) (stateAfter (replyFrom (w .reply)) (steppedFrom (stateIn numbers) w .state) numbers)
+
+  -- a step that is one: its state is written
+  wrote : (w : steps.Went Answer) → Sixteen (w .held .progress .memory)
+      → Saves (steppedFrom (stateIn numbers) w .state) (withState (steppedFrom (stateIn numbers) w .state) numbers)
+  wrote w full = written (steppedFrom (stateIn numbers) w .state) numbers (is .size) full
+
+  -- after a portion
+  went-kept : (held : steps.Held Answer) (p : Portion) → Sixteen (held .progress .memory) → Kept-after (steps.wentTo held p)
+  unfolding steps.movedTo
+  went-kept held p full =
+      pick-with
+      (λ (x : steps.Reply Answer). Saves (steppedFrom (stateIn numbers) (steps.wentTo held p) .state) (stateAfter (replyFrom x) (steppedFrom (stateIn numbers) (steps.wentTo held p) .state) numbers))
+      (p .all) (λ _. wrote (steps.wentTo held p) full) (λ _. wrote (steps.wentTo held p) full)
+
+  answered-kept : (held : steps.Held Answer) (a : Answer) → Sixteen (held .progress .memory)
+      → Kept-after (record { held = held; copied = 0; reply = steps.answers a })
+  answered-kept held a full = wrote (record { held = held; copied = 0; reply = steps.answers a }) full
+
+  stage-kept : (stage : Stage) (b : ℕ)
+      → Kept-after (steps.byStage stage course image (memoryOf guest (mapOf map)) (heldOf (stateIn numbers)) b .answer)
+  unfolding steps.firstStep steps.begunWith
+  stage-kept Fresh b =
+      pick-with (λ (x : Plan (steps.Went Answer)). Kept-after (x .answer)) (course .loads)
+      (λ _. went-kept (steps.begun course (length image) (memoryOf guest (mapOf map))) _ (map-sixteen guest map))
+      (λ _. answered-kept (steps.begun course (length image) (memoryOf guest (mapOf map))) (course .answer) (map-sixteen guest map))
+  stage-kept Copying b = went-kept (heldOf (stateIn numbers)) _ (state-sixteen numbers)
+  stage-kept Done b = answered-kept (heldOf (stateIn numbers)) (stateIn numbers .answer) (state-sixteen numbers)
+
+  plan-kept : (b : ℕ)
+      → Saves (planIn image numbers b (mapOf map) guest .answer .state)
+      (stateAfter (planIn image numbers b (mapOf map) guest .answer .reply) (planIn image numbers b (mapOf map) guest .answer .state) numbers)
+  unfolding steps.stepPlan
+  plan-kept b =
+      by
+      (askedAll Open (steps.stepTests (stateIn numbers .progress) (length image) (memoryOf guest (mapOf map)) b))
+    where
+      by : (g : Gate)
+          → Kept-after
+          (steps.ifOpen g (heldOf (stateIn numbers))
+          (steps.byStage (stateIn numbers .progress .stage) course image (memoryOf guest (mapOf map)) (heldOf (stateIn numbers)) b)
+          .answer)
+      by Open = stage-kept (stateIn numbers .progress .stage) b
+      by (Shut r) = is
+
+-- ---- the entry points
+
+-- what `rekusoyen_elf_begin` writes holds the new load
+pub begin-kept : (numbers : List ℕ) (offset highmem : Given) {r : ℕ} {left : List ℕ} → length numbers ≡ stateSize → ElfBegins numbers offset highmem r left
+    → Saves (freshState offset highmem) left
+unfolding pick
+begin-kept numbers offset highmem size begins =
+    subst (Saves (freshState offset highmem)) (sym (begins .state ∙ rw (eq-eqb (length numbers) stateSize size)))
+    (written (freshState offset highmem) numbers size (record { starts = refl; sizes = refl }))
+
+-- a call over a list that holds a state passes the tests of its lists
+pub call-open : {st : State} (numbers out : List ℕ) → Saves st numbers → length out ≡ 9 → callGate numbers out ≡ Open
+unfolding callGate
+call-open numbers out is nine =
+    all-open (callTests numbers out) (eq-eqb (length numbers) stateSize (is .size), (eq-eqb (length out) 9 nine, is .good))
+
+-- a call of `rekusoyen_elf_step` over a list that holds a state is a step of that state, and leaves a list that holds the state after it
+pub step-kept : {st : State} (image map guest numbers out : List ℕ) (budget : ℕ) {r : ℕ} {guest-left left out-left : List ℕ} → Saves st numbers → length out ≡ 9
+    → ElfSteps image (mapOf map) budget guest numbers out r guest-left left out-left → StepsFrom st image (mapOf map) budget guest out r guest-left left out-left
+step-kept image map guest numbers out budget {r} {guest-left} {left} {out-left} is nine calls =
+    let plan = planIn image numbers budget (mapOf map) guest in
+    let e = call-open numbers out is nine in
+    let same : Saves (stateIn numbers) numbers = record { size = is .size; good = is .good; held = refl } in
+    let from : StepsFrom (stateIn numbers) image (mapOf map) budget guest out r guest-left left out-left =
+    record {
+      stepped = plan .answer;
+      says =
+          record { answer = refl; memory = calls .memory ∙ ap (λ (g : Gate). leftBehind g (pour (plan .stream) guest) guest) e };
+      answer = calls .answer ∙ ap (λ (g : Gate). numberBehind g (replyNumber (plan .answer .reply))) e;
+      told = calls .told ∙ ap (λ (g : Gate). leftBehind g (sets out 0 (toldNumbers (plan .answer .copied) (plan .answer .reply))) out) e;
+      kept =
+          subst (Saves (plan .answer .state))
+          (sym (calls .state ∙ ap (λ (g : Gate). leftBehind g (stateAfter (plan .answer .reply) (plan .answer .state) numbers) numbers) e))
+          (plan-kept numbers same image guest map budget);
+    } in
+    subst (λ (x : State). StepsFrom x image (mapOf map) budget guest out r guest-left left out-left) (is .held) from

@@ -1,0 +1,5 @@
+pub mod Refusals
+pub mod States
+pub mod ElfSteps
+pub mod BzImageSteps
+pub mod StateKept
