@@ -54,6 +54,12 @@ pub const ELF_NOTE_OUT: usize = 5;
 /// How many places the list of a bzImage load's values has.
 pub const BZIMAGE_LOAD_OUT: usize = 2;
 
+/// How many numbers hold the state of a bzImage load in steps, beside its setup header.
+pub const BZIMAGE_STATE: usize = 45;
+
+/// How many places the list of a step's values of a bzImage load has.
+pub const BZIMAGE_STEP_OUT: usize = 5;
+
 /// How many ranges a map of guest memory has at most.
 pub const MAP_RANGES: usize = 16;
 
@@ -149,6 +155,43 @@ extern "C" {
         out_len: usize,
         header: *mut u8,
         header_len: usize,
+    ) -> u32;
+
+    /// Begins a bzImage load in steps: writes its state, [`BZIMAGE_STATE`] numbers and the bytes of a setup header.
+    ///
+    /// # Safety
+    ///
+    /// As of [`rekusoyen_elf_load`].
+    pub fn rekusoyen_bzimage_begin(
+        state: *mut u64,
+        state_len: usize,
+        header: *mut u8,
+        header_len: usize,
+        flags: u32,
+        offset: u64,
+        highmem: u64,
+    ) -> u32;
+
+    /// A step of a bzImage load, which copies at most `budget` bytes. `out` has [`BZIMAGE_STEP_OUT`] places: the bytes copied, 1 where the load
+    /// answers, the answer's number, the load address, and the kernel's end.
+    ///
+    /// # Safety
+    ///
+    /// As of [`rekusoyen_elf_load`].
+    pub fn rekusoyen_bzimage_step(
+        guest: *mut u8,
+        guest_len: usize,
+        map: *const u64,
+        map_len: usize,
+        image: *const u8,
+        image_len: usize,
+        state: *mut u64,
+        state_len: usize,
+        header: *mut u8,
+        header_len: usize,
+        budget: u64,
+        out: *mut u64,
+        out_len: usize,
     ) -> u32;
 
     /// Builds the boot page in [`PAGE_SIZE`] bytes; `header` has [`SETUP_HEADER_SIZE`] bytes, and `rows` three numbers for each row.

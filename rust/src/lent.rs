@@ -234,6 +234,66 @@ pub(crate) fn bzimage_load(
     })
 }
 
+/// The state of a bzImage load in steps: its numbers, and the setup header once the load is accepted.
+#[derive(Clone, Debug, PartialEq, Eq)]
+pub struct BzImageState {
+    numbers: [u64; entry::BZIMAGE_STATE],
+    pub(crate) setup_header: [u8; entry::SETUP_HEADER_SIZE],
+}
+
+/// The state of one that is not begun.
+pub(crate) fn bzimage_begin(options: Options) -> BzImageState {
+    let mut state = BzImageState {
+        numbers: [0; entry::BZIMAGE_STATE],
+        setup_header: [0; entry::SETUP_HEADER_SIZE],
+    };
+    // SAFETY: both parts of the state are arrays of Rust's, borrowed by this call alone. The function keeps neither pointer.
+    let refused = unsafe {
+        entry::rekusoyen_bzimage_begin(
+            state.numbers.as_mut_ptr(),
+            state.numbers.len(),
+            state.setup_header.as_mut_ptr(),
+            state.setup_header.len(),
+            options.flags(),
+            number(options.offset),
+            number(options.highmem),
+        )
+    };
+    debug_assert_eq!(refused, 0, "a state of the right size is refused");
+    state
+}
+
+/// A step of a bzImage load: the bytes copied, 1 where the load answers, the answer's number, the load address and the kernel's end.
+pub(crate) fn bzimage_step(
+    guest: Guest,
+    image: &[u8],
+    state: &mut BzImageState,
+    budget: u64,
+) -> Result<[u64; entry::BZIMAGE_STEP_OUT], Refusal> {
+    let mut out = [0; entry::BZIMAGE_STEP_OUT];
+    let map = guest.map();
+    // SAFETY: the guest's bytes can be read and written and nobody else has them, by `Guest`; the others are slices of Rust's, state and output
+    // borrowed by this call alone. The function keeps none of the pointers.
+    let number = unsafe {
+        entry::rekusoyen_bzimage_step(
+            guest.start,
+            guest.length,
+            map.as_ptr(),
+            map.len(),
+            image.as_ptr(),
+            image.len(),
+            state.numbers.as_mut_ptr(),
+            state.numbers.len(),
+            state.setup_header.as_mut_ptr(),
+            state.setup_header.len(),
+            budget,
+            out.as_mut_ptr(),
+            out.len(),
+        )
+    };
+    answered(number).map(|()| out)
+}
+
 /// Writes a line and its zero into guest memory.
 pub(crate) fn line_load(guest: Guest, address: GuestAddress, line: &[u8]) -> Result<(), Refusal> {
     let map = guest.map();

@@ -1,9 +1,9 @@
-//! ELF images loaded in steps.
+//! Images loaded in steps.
 
 mod images;
 
-use images::{fresh, ElfImage, LOADABLE};
-use rekusoyen::loader::{elf, Elf, ElfSteps, StepError};
+use images::{fresh, fresh_with, BzImageFile, ElfImage, LOADABLE};
+use rekusoyen::loader::{bzimage, elf, BzImage, BzImageSteps, Elf, ElfSteps, StepError};
 use rekusoyen::{GuestAddress, Map};
 use std::num::NonZeroU64;
 
@@ -111,4 +111,52 @@ fn a_refused_image_is_answered_in_the_first_step() {
     assert_eq!(step.answer, Some(Err(elf::Error::ReadElfHeader.into())));
     assert!(portions.next().is_none());
     assert_eq!(guest, fresh(ROOM));
+}
+
+#[test]
+fn a_bzimage_is_loaded_in_portions_as_in_one() {
+    let map = Map::whole(ROOM);
+    let image = BzImageFile::loaded_at(16, b"abcde").bytes();
+    let mut whole = fresh(ROOM);
+    let answer = BzImage::load_into(&mut whole, None, &image, None);
+    assert!(answer.is_ok());
+    for budget in [1, 2, 4, 5, 6, u64::MAX] {
+        let mut guest = fresh(ROOM);
+        let budget = NonZeroU64::new(budget).unwrap();
+        let portions = BzImage::load_in_portions(&mut guest, &map, None, &image, None, budget);
+        let steps: Vec<_> = portions.map(|step| step.unwrap()).collect();
+        let (last, before) = steps.split_last().unwrap();
+        assert!(before.iter().all(|step| step.answer.is_none()));
+        assert_eq!(steps.iter().map(|step| step.copied).sum::<u64>(), 5);
+        assert_eq!(last.answer, Some(answer));
+        assert_eq!(guest, whole);
+    }
+}
+
+#[test]
+fn a_bzimage_stops_and_repeats_its_answer() {
+    let map = Map::whole(ROOM);
+    let image = BzImageFile::loaded_at(16, b"abc").bytes();
+    let mut load = BzImageSteps::new(Some(GuestAddress(8)), None);
+    let mut guest = fresh(ROOM);
+    assert_eq!(load.step(&mut guest, &map, &image, 2).unwrap().copied, 2);
+    assert_eq!(guest, fresh_with(ROOM, &[(8, b"ab")]));
+    let before = load.clone();
+    let none = load.step(&mut guest, &map, &image, 0);
+    assert_eq!(none, Err(StepError::NoBudget));
+    let shorter = load.step(&mut guest, &map, &image[1..], 1);
+    assert_eq!(shorter, Err(StepError::LentChanged));
+    assert_eq!(load, before);
+    let last = load.step(&mut guest, &map, &image, 9).unwrap();
+    let header = last.answer.unwrap().unwrap().setup_header.unwrap();
+    assert_eq!(({ header.code32_start }, last.copied), (8, 1));
+    let again = load.step(&mut guest, &map, &image, 9).unwrap();
+    assert_eq!((again.copied, again.answer), (0, last.answer));
+    let mut refused = BzImageSteps::new(None, None);
+    let step = refused.step(&mut guest, &map, b"no bzImage", 1).unwrap();
+    assert_eq!(
+        step.answer,
+        Some(Err(bzimage::Error::InvalidBzImage.into()))
+    );
+    assert_eq!(guest, fresh_with(ROOM, &[(8, b"abc")]));
 }

@@ -17,6 +17,20 @@ use vm_memory::MmapRegion;
 /// refused for them.
 const NEVER: [Refusal; 3] = [Refusal::BadList, Refusal::NoRoom, Refusal::TooFewPlaces];
 
+/// The catalogue has these before any function answers them: each goes from here with the request that it is for.
+const LATER: [Refusal; 10] = [
+    Refusal::BadJob,
+    Refusal::BadPart,
+    Refusal::ShortImage,
+    Refusal::BadImageMagic,
+    Refusal::BigEndianImage,
+    Refusal::NoImageSize,
+    Refusal::UnalignedBase,
+    Refusal::ImageStartWraps,
+    Refusal::NoRoomForImage,
+    Refusal::ImageEndWraps,
+];
+
 #[test]
 fn every_refusal_is_reached_and_has_its_number() {
     let reached = [
@@ -36,7 +50,8 @@ fn every_refusal_is_reached_and_has_its_number() {
     }
     for refusal in Refusal::ALL {
         let is_reached = reached.iter().any(|row| row.0 == *refusal);
-        assert_eq!(is_reached, !NEVER.contains(refusal), "{refusal:?}");
+        let is_left_out = NEVER.contains(refusal) || LATER.contains(refusal);
+        assert_eq!(is_reached, !is_left_out, "{refusal:?}");
     }
 }
 

@@ -1,12 +1,13 @@
 //! Asks a program that has the second program's functions. It stands over the second program itself and over the copy with planted
 //! mistakes: the module above names which as `program`.
 
-use super::program::{bzimage, elf, line::Line, loading, note, page, words, Refusal, Rules};
+use super::program::{bzimage, elf, line::Line, loading, note, page, steps, words, Refusal, Rules};
 use crate::answer::{
-    Answer, BzimageLoaded, CallAnswer, ElfLoaded, Note, NoteWalked, PageFound, Pvh,
+    Answer, BzimageLoaded, CallAnswer, ElfLoaded, Note, NoteWalked, PageFound, Pvh, StepTold,
+    StepsTold, Told,
 };
 use crate::lists::Lists;
-use crate::question::{Call, Load, PageBuild, PageRead, Question, Walk, Words};
+use crate::question::{Call, Load, Loader, PageBuild, PageRead, Question, Steps, Walk, Words};
 
 /// What an untouched byte of a lent output holds.
 const UNTOUCHED: u8 = 0xe7;
@@ -34,7 +35,36 @@ pub fn answer_by(question: &Question, rules: second::Rules) -> Answer {
         Question::Words(asked) => answer_words(asked),
         Question::PageBuild(build) => answer_build(build),
         Question::PageRead(read) => Answer::PageRead(answer_read(read)),
+        Question::Steps(asked) => Answer::Steps(match asked.loader {
+            Loader::Elf => answer_steps(asked, |loaded| {
+                Told::Elf(loaded.map(elf_loaded).map_err(Refusal::number))
+            }),
+            Loader::Bzimage => answer_steps(asked, |loaded| {
+                Told::Bzimage(loaded.map(bzimage_loaded).map_err(Refusal::number))
+            }),
+        }),
     }
+}
+
+/// Every call of a load in steps. The published crate has none, so there is one set of rules.
+fn answer_steps<A: steps::Loads>(
+    asked: &Steps,
+    told: impl Fn(Result<A, Refusal>) -> Told,
+) -> StepsTold {
+    let switched_on = second::Rules::landed().switched_on;
+    let (offset, highmem) = (asked.options.offset, asked.options.highmem);
+    let mut load = steps::Steps::new(Rules { switched_on }, offset, highmem);
+    let mut guest = asked.guest.clone();
+    let mut calls = Vec::with_capacity(asked.calls.len());
+    for call in &asked.calls {
+        let lent = &mut guest[..asked.lent(call)];
+        let step = load.step(lent, &asked.numbers(call), asked.image(call), call.budget);
+        calls.push(match step {
+            Ok(step) => StepTold::Step(step.copied, step.answer.map(&told)),
+            Err(refusal) => StepTold::Refused(refusal.number()),
+        });
+    }
+    StepsTold { calls, guest }
 }
 
 fn answer_build(build: &PageBuild) -> Answer {
@@ -76,12 +106,16 @@ fn answer_elf(load: &Load, map: &[u64], rules: Rules) -> Answer {
     let mut guest = load.guest.clone();
     let (offset, highmem) = (load.options.offset, load.options.highmem);
     let outcome = elf::load(rules, &load.image, &mut guest, map, offset, highmem);
-    let outcome = outcome.map_err(Refusal::number).map(|loaded| ElfLoaded {
+    let outcome = outcome.map_err(Refusal::number).map(elf_loaded);
+    Answer::Elf { outcome, guest }
+}
+
+fn elf_loaded(loaded: elf::Loaded) -> ElfLoaded {
+    ElfLoaded {
         load: loaded.load,
         end: loaded.end,
         pvh: pvh(loaded.pvh),
-    });
-    Answer::Elf { outcome, guest }
+    }
 }
 
 fn answer_note(walk: &Walk) -> Result<NoteWalked, u8> {
@@ -107,14 +141,16 @@ fn answer_bzimage(load: &Load, map: &[u64]) -> Answer {
     let mut guest = load.guest.clone();
     let (offset, highmem) = (load.options.offset, load.options.highmem);
     let outcome = bzimage::load(&load.image, &mut guest, map, offset, highmem);
-    let outcome = outcome
-        .map_err(Refusal::number)
-        .map(|loaded| BzimageLoaded {
-            load: loaded.load,
-            end: loaded.end,
-            header: loaded.header.to_vec(),
-        });
+    let outcome = outcome.map_err(Refusal::number).map(bzimage_loaded);
     Answer::Bzimage { outcome, guest }
+}
+
+fn bzimage_loaded(loaded: bzimage::Loaded) -> BzimageLoaded {
+    BzimageLoaded {
+        load: loaded.load,
+        end: loaded.end,
+        header: loaded.header.to_vec(),
+    }
 }
 
 /// The line that the calls make.

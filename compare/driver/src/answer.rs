@@ -90,6 +90,29 @@ pub enum Answer {
         page: Vec<u8>,
     },
     PageRead(Result<PageFound, u8>),
+    Steps(StepsTold),
+}
+
+/// What the calls of a load in steps were told, and the guest afterwards.
+#[derive(Clone, Debug, PartialEq, Eq)]
+pub struct StepsTold {
+    pub calls: Vec<StepTold>,
+    pub guest: Vec<u8>,
+}
+
+#[derive(Clone, Debug, PartialEq, Eq)]
+pub enum StepTold {
+    /// It was no step.
+    Refused(u8),
+    /// The bytes copied, and the load's answer where it is at its end.
+    Step(u64, Option<Told>),
+}
+
+/// The answer of a load that was taken in steps.
+#[derive(Clone, Debug, PartialEq, Eq)]
+pub enum Told {
+    Elf(Result<ElfLoaded, u8>),
+    Bzimage(Result<BzimageLoaded, u8>),
 }
 
 /// What reading the words of a line left.
@@ -107,14 +130,7 @@ impl Answer {
         let mut line = String::new();
         match self {
             Answer::Elf { outcome, guest } => {
-                line += "elf";
-                match outcome {
-                    Ok(loaded) => {
-                        let (load, end) = (loaded.load, loaded.end);
-                        line += &format!(" ok {load} {end} pvh {}", pvh(loaded.pvh));
-                    }
-                    Err(number) => line += &format!(" refused {number}"),
-                }
+                put_elf(&mut line, outcome);
                 put_guest(&mut line, before, guest);
             }
             Answer::Note(Ok(walked)) => {
@@ -123,14 +139,7 @@ impl Answer {
             }
             Answer::Note(Err(number)) => line += &format!("note refused {number}"),
             Answer::Bzimage { outcome, guest } => {
-                line += "bzimage";
-                match outcome {
-                    Ok(loaded) => {
-                        let (load, end) = (loaded.load, loaded.end);
-                        line += &format!(" ok {load} {end} header {}", hex(&loaded.header));
-                    }
-                    Err(number) => line += &format!(" refused {number}"),
-                }
+                put_bzimage(&mut line, outcome);
                 put_guest(&mut line, before, guest);
             }
             Answer::Line(calls) => put_calls(&mut line, calls),
@@ -163,6 +172,14 @@ impl Answer {
                 }
             }
             Answer::PageRead(Err(number)) => line += &format!("page refused {number}"),
+            Answer::Steps(told) => {
+                line += "steps";
+                for call in &told.calls {
+                    line += " | ";
+                    put_step(&mut line, call);
+                }
+                put_guest(&mut line, before, &told.guest);
+            }
         }
         line
     }
@@ -184,8 +201,19 @@ impl Answer {
             }
             Answer::PageBuild { outcome, .. } => numbers.extend(outcome.err()),
             Answer::PageRead(outcome) => numbers.extend(outcome.as_ref().err()),
+            Answer::Steps(told) => numbers.extend(told.calls.iter().filter_map(step_refusal)),
         }
         numbers
+    }
+}
+
+fn step_refusal(call: &StepTold) -> Option<u8> {
+    match call {
+        StepTold::Refused(number)
+        | StepTold::Step(_, Some(Told::Elf(Err(number)) | Told::Bzimage(Err(number)))) => {
+            Some(*number)
+        }
+        StepTold::Step(..) => None,
     }
 }
 
@@ -194,6 +222,48 @@ fn refusal(call: &CallAnswer) -> Option<u8> {
         CallAnswer::Refused(number) => Some(*number),
         CallAnswer::Written { outcome, .. } => outcome.as_ref().err().copied(),
         _ => None,
+    }
+}
+
+fn put_elf(line: &mut String, outcome: &Result<ElfLoaded, u8>) {
+    *line += &match outcome {
+        Ok(loaded) => format!(
+            "elf ok {} {} pvh {}",
+            loaded.load,
+            loaded.end,
+            pvh(loaded.pvh)
+        ),
+        Err(number) => format!("elf refused {number}"),
+    };
+}
+
+fn put_bzimage(line: &mut String, outcome: &Result<BzimageLoaded, u8>) {
+    *line += &match outcome {
+        Ok(loaded) => {
+            let header = hex(&loaded.header);
+            format!("bzimage ok {} {} header {header}", loaded.load, loaded.end)
+        }
+        Err(number) => format!("bzimage refused {number}"),
+    };
+}
+
+fn put_step(line: &mut String, call: &StepTold) {
+    match call {
+        StepTold::Refused(number) => *line += &format!("refused {number}"),
+        StepTold::Step(copied, told) => {
+            *line += &copied.to_string();
+            match told {
+                None => {}
+                Some(Told::Elf(outcome)) => {
+                    *line += " ";
+                    put_elf(line, outcome);
+                }
+                Some(Told::Bzimage(outcome)) => {
+                    *line += " ";
+                    put_bzimage(line, outcome);
+                }
+            }
+        }
     }
 }
 
@@ -309,6 +379,22 @@ mod tests {
         assert_eq!(unclosed.numbers(), [71]);
         let few = told(Err((72, None)), true);
         assert_eq!(few.line(&[]), "words refused 72 spoilt");
+    }
+
+    #[test]
+    fn steps_are_told_one_behind_the_other() {
+        let calls = vec![
+            StepTold::Step(2, None),
+            StepTold::Refused(63),
+            StepTold::Step(0, Some(Told::Elf(Err(10)))),
+        ];
+        let answer = Answer::Steps(StepsTold {
+            calls,
+            guest: vec![1],
+        });
+        let wanted = "steps | 2 | refused 63 | 0 elf refused 10 guest 1 1 0 0 0";
+        assert_eq!(answer.line(&[1]), wanted);
+        assert_eq!(answer.numbers(), [63, 10]);
     }
 
     #[test]

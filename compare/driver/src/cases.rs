@@ -3,6 +3,7 @@
 use crate::examples::{put, pvh_note, small_bzimage, small_elf};
 use crate::map_cases;
 use crate::question::{Call, Load, PageBuild, PageRead, Question, Walk, Words};
+use crate::step_cases;
 
 /// A question, and the answer to it in the short form of the test below.
 pub type Case = (Question, &'static str);
@@ -24,6 +25,7 @@ pub fn all() -> Vec<Case> {
         map_cases::all(),
         words(),
         pages(),
+        step_cases::all(),
     ]
     .concat()
 }

@@ -4,9 +4,15 @@ use crate::answer::{Answer, CallAnswer, ElfLoaded, NoteWalked, Pvh};
 use crate::backend::Reply;
 use crate::domain;
 use crate::question::Question;
+use crate::unclaimed;
 
 /// Whether a backend's reply agrees with the second program's answer.
 pub fn agrees(question: &Question, wanted: &Answer, reply: &Reply) -> bool {
+    if let (Question::Steps(asked), Answer::Steps(wanted)) = (question, wanted) {
+        if let Some(claimed) = unclaimed::first(asked, wanted) {
+            return unclaimed::agrees(asked, wanted, claimed, reply);
+        }
+    }
     match reply {
         Reply::Outside => true,
         Reply::Line(line) => *line == wanted.line(question.guest()),

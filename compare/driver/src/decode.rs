@@ -2,7 +2,8 @@
 
 use crate::encode::{LARGEST, MOST_PLACES};
 use crate::question::{
-    Call, LineLoad, Load, Map, Options, PageBuild, PageRead, Question, Walk, Words,
+    Call, LineLoad, Load, Loader, Map, Options, PageBuild, PageRead, Question, StepCall, Steps,
+    Walk, Words,
 };
 use std::io::{self, Read};
 
@@ -96,7 +97,33 @@ pub fn question(body: &[u8]) -> Parsed<Question> {
                 bytes: rest.0.to_vec(),
             })
         }
+        14 => Question::Steps(steps(Loader::Elf, rest)?),
+        15 => Question::Steps(steps(Loader::Bzimage, rest)?),
         _ => return Err("unknown kind"),
+    })
+}
+
+/// A load in steps: what is lent, and then the calls.
+fn steps(loader: Loader, mut rest: Rest) -> Parsed<Steps> {
+    let map = map(&mut rest)?.unwrap_or_default();
+    let load = lent(None, &mut rest)?;
+    let mut calls = Vec::new();
+    while !rest.0.is_empty() {
+        calls.push(StepCall {
+            budget: rest.number::<8>()?,
+            place: rest.number::<4>()? as u32,
+            length: rest.number::<4>()? as u32,
+            guest: rest.number::<4>()? as u32,
+            is_whole: rest.number::<1>()? == 1,
+        });
+    }
+    Ok(Steps {
+        loader,
+        options: load.options,
+        map,
+        bytes: load.image,
+        guest: load.guest,
+        calls,
     })
 }
 
@@ -145,13 +172,22 @@ fn line_load(map: Map, mut rest: Rest) -> Parsed<LineLoad> {
 }
 
 fn load(map: Map, mut rest: Rest) -> Parsed<Load> {
+    let load = lent(map, &mut rest)?;
+    if !rest.0.is_empty() {
+        return Err("bytes left over");
+    }
+    Ok(load)
+}
+
+/// Options, an image and a guest.
+fn lent(map: Map, rest: &mut Rest) -> Parsed<Load> {
     let flags = rest.number::<1>()?;
     let (offset, highmem) = (rest.number::<8>()?, rest.number::<8>()?);
     let (image, guest) = (rest.number::<4>()?, rest.number::<4>()?);
     if flags > 3 {
         return Err("unknown flags");
     }
-    let load = Load {
+    Ok(Load {
         options: Options {
             offset: (flags & 1 != 0).then_some(offset),
             highmem: (flags & 2 != 0).then_some(highmem),
@@ -159,11 +195,7 @@ fn load(map: Map, mut rest: Rest) -> Parsed<Load> {
         map,
         image: rest.bytes(image)?,
         guest: rest.bytes(guest)?,
-    };
-    if !rest.0.is_empty() {
-        return Err("bytes left over");
-    }
-    Ok(load)
+    })
 }
 
 fn words(mut rest: Rest) -> Parsed<Words> {

@@ -21,6 +21,8 @@ pub fn asks_crate(question: &Question) -> bool {
         // the crate does not read a line back
         Question::Words(_) => false,
         Question::PageBuild(_) | Question::PageRead(_) => !page_is_refused(question),
+        // the crate has no load in steps
+        Question::Steps(_) => false,
     }
 }
 

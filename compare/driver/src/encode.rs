@@ -1,6 +1,6 @@
 //! Questions as bytes, in the form that `docs/PROBE.md` gives.
 
-use crate::question::{Call, Load, Map, Question};
+use crate::question::{Call, Load, Loader, Map, Options, Question, Steps};
 
 /// The most bytes of an image or of a guest that the form takes.
 pub const LARGEST: usize = 1 << 20;
@@ -16,6 +16,7 @@ pub fn fits(question: &Question) -> bool {
         Question::Line(_) | Question::LineLoad(_) => return question.guest().len() <= LARGEST,
         Question::Words(words) => return words.places.iter().all(|count| *count <= MOST_PLACES),
         Question::PageBuild(_) | Question::PageRead(_) => return true,
+        Question::Steps(steps) => &steps.bytes,
     };
     image.len() <= LARGEST && question.guest().len() <= LARGEST
 }
@@ -76,33 +77,58 @@ fn body(question: &Question) -> Vec<u8> {
             out.extend(read.place.to_le_bytes());
             out.extend(&read.bytes);
         }
+        Question::Steps(steps) => put_steps(&mut out, steps),
     }
     out
 }
 
 /// The kind without a map, or the one with a map and the map.
 fn put_kind(out: &mut Vec<u8>, [without, with]: [u8; 2], map: &Map) {
-    let Some(numbers) = map else {
-        return out.push(without);
-    };
+    match map {
+        None => out.push(without),
+        Some(numbers) => put_kind_and_map(out, with, numbers),
+    }
+}
+
+fn put_kind_and_map(out: &mut Vec<u8>, kind: u8, numbers: &[u64]) {
     let count = u8::try_from(numbers.len()).expect("a generated map has at most 255 numbers");
-    out.extend([with, count]);
+    out.extend([kind, count]);
     for number in numbers {
         out.extend(number.to_le_bytes());
     }
 }
 
 fn put_load(out: &mut Vec<u8>, kinds: [u8; 2], load: &Load) {
-    let options = load.options;
-    let flags = u8::from(options.offset.is_some()) + 2 * u8::from(options.highmem.is_some());
     put_kind(out, kinds, &load.map);
+    put_lent(out, load.options, &load.image, &load.guest);
+}
+
+fn put_steps(out: &mut Vec<u8>, steps: &Steps) {
+    let kind = match steps.loader {
+        Loader::Elf => 14,
+        Loader::Bzimage => 15,
+    };
+    put_kind_and_map(out, kind, &steps.map);
+    put_lent(out, steps.options, &steps.bytes, &steps.guest);
+    for call in &steps.calls {
+        out.extend(call.budget.to_le_bytes());
+        for number in [call.place, call.length, call.guest] {
+            out.extend(number.to_le_bytes());
+        }
+        out.push(u8::from(call.is_whole));
+    }
+}
+
+/// Options, an image and a guest.
+fn put_lent(out: &mut Vec<u8>, options: Options, image: &[u8], guest: &[u8]) {
+    let flags = u8::from(options.offset.is_some()) + 2 * u8::from(options.highmem.is_some());
     out.push(flags);
     out.extend(options.offset.unwrap_or(0).to_le_bytes());
     out.extend(options.highmem.unwrap_or(0).to_le_bytes());
-    put_length4(out, &load.image);
-    put_length4(out, &load.guest);
-    out.extend(&load.image);
-    out.extend(&load.guest);
+    put_length4(out, image);
+    put_length4(out, guest);
+    out.extend(image);
+    out.extend(guest);
 }
 
 fn put_calls(out: &mut Vec<u8>, calls: &[Call]) {

@@ -22,12 +22,14 @@ pub mod parts;
 mod pipe;
 mod planted_run;
 pub mod question;
-mod report;
+pub mod report;
 mod rng;
-mod run;
+pub mod run;
 mod sample;
 mod show;
 mod shrink;
 mod stand_in;
+mod step_cases;
+mod unclaimed;
 
 pub use second::Rules;

@@ -37,6 +37,12 @@ pub fn all() -> Vec<(Vec<u8>, &'static str)> {
         (page_build(4096, 8 * 401), rows),
         (vec![11; 9], "malformed: no page"),
         (vec![11, 1, 0, 1, 0, 0, 0, 0, 0, 0], "malformed: no page"),
+        (vec![14], map),
+        (vec![15, 1, 0, 0, 0, 0, 0, 0, 0], map),
+        (vec![14, 0], lengths),
+        (over_nothing(15), lengths),
+        (in_steps(1, 20), lengths),
+        (in_steps(0, 20), "malformed: the calls"),
     ]
     .into_iter()
     .map(|(body, line)| (framed(&body), line))
@@ -45,6 +51,15 @@ pub fn all() -> Vec<(Vec<u8>, &'static str)> {
     cut.pop();
     questions.push((cut, "malformed: cut short"));
     questions
+}
+
+/// The body of a load in steps with no map, of an image of so many bytes that are not there, with so many bytes of calls.
+fn in_steps(image: u8, calls: usize) -> Vec<u8> {
+    let mut body = vec![14, 0];
+    body.extend([0; 25]);
+    body[19] = image;
+    body.resize(27 + if image == 0 { calls } else { 0 }, 0);
+    body
 }
 
 /// The body of a page that is built, of so many bytes, with so many bytes behind the header.

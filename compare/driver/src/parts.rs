@@ -19,7 +19,8 @@ pub fn parts(question: &Question) -> Vec<Part> {
         | Question::Line(_)
         | Question::Words(_)
         | Question::PageBuild(_)
-        | Question::PageRead(_) => vec![],
+        | Question::PageRead(_)
+        | Question::Steps(_) => vec![],
     }
 }
 

@@ -8,7 +8,9 @@ use crate::run::{run, Plan, EXHAUSTIVE_PARTS};
 use second::Rules;
 
 /// Enough random questions for a rare path, after all the exhaustive ones.
-const RANDOM: [u64; Area::COUNT] = [160_000, 80_000, 80_000, 80_000, 40_000, 40_000, 20_000];
+const RANDOM: [u64; Area::COUNT] = [
+    160_000, 80_000, 80_000, 80_000, 40_000, 40_000, 20_000, 20_000,
+];
 
 /// Prints for each mistake who noticed it, then the score; answers whether the unedited program noticed them all.
 pub fn planted(seed: u64, threads: usize, published: Option<&Maker>) -> bool {
@@ -23,6 +25,7 @@ pub fn planted(seed: u64, threads: usize, published: Option<&Maker>) -> bool {
         .collect();
     let mut plan = Plan {
         seed,
+        areas: Area::ALL.to_vec(),
         random: RANDOM.map(|count| count / 8),
         exhaustive: EXHAUSTIVE_PARTS,
         threads,

@@ -68,6 +68,59 @@ impl PageRead {
     }
 }
 
+/// Whose load is taken in steps.
+#[derive(Clone, Copy, Debug, PartialEq, Eq)]
+pub enum Loader {
+    Elf,
+    Bzimage,
+}
+
+/// A load in steps. Each call lends what it says of the bytes and of the guest.
+#[derive(Clone, Debug, PartialEq, Eq)]
+pub struct Steps {
+    pub loader: Loader,
+    pub options: Options,
+    pub map: Vec<u64>,
+    /// What the images are taken from.
+    pub bytes: Vec<u8>,
+    pub guest: Vec<u8>,
+    pub calls: Vec<StepCall>,
+}
+
+/// One call of a load in steps.
+#[derive(Clone, Copy, Debug, PartialEq, Eq)]
+pub struct StepCall {
+    pub budget: u64,
+    /// The image: so many of the bytes from a place on, as far as they go.
+    pub place: u32,
+    pub length: u32,
+    /// How much of the guest is lent, as far as it goes.
+    pub guest: u32,
+    /// The map is that of all that is lent of the guest, and not the question's.
+    pub is_whole: bool,
+}
+
+impl Steps {
+    pub fn image(&self, call: &StepCall) -> &[u8] {
+        let from = self.bytes.len().min(call.place as usize);
+        let rest = &self.bytes[from..];
+        &rest[..rest.len().min(call.length as usize)]
+    }
+
+    /// How much of the guest a call is lent.
+    pub fn lent(&self, call: &StepCall) -> usize {
+        self.guest.len().min(call.guest as usize)
+    }
+
+    pub fn numbers(&self, call: &StepCall) -> Vec<u64> {
+        if call.is_whole {
+            whole(self.lent(call))
+        } else {
+            self.map.clone()
+        }
+    }
+}
+
 #[derive(Clone, Debug, PartialEq, Eq)]
 pub enum Question {
     Elf(Load),
@@ -78,6 +131,7 @@ pub enum Question {
     Words(Words),
     PageBuild(PageBuild),
     PageRead(PageRead),
+    Steps(Steps),
 }
 
 /// A line to read the words of, and how many places each of the three lists has.
@@ -121,7 +175,8 @@ pub enum Call {
     IsEqual,
 }
 
-/// The areas that cases are counted by, one for each kind of question; building a page and reading one are one area.
+/// The areas that cases are counted by, one for each kind of question; building a page and reading one are one area, and loads in steps are
+/// one for both loaders.
 #[derive(Clone, Copy, Debug, PartialEq, Eq)]
 pub enum Area {
     Elf,
@@ -131,11 +186,12 @@ pub enum Area {
     LineLoad,
     Words,
     Page,
+    Steps,
 }
 
 impl Area {
     /// How many there are.
-    pub const COUNT: usize = 7;
+    pub const COUNT: usize = 8;
 
     pub const ALL: [Area; Area::COUNT] = [
         Area::Elf,
@@ -145,6 +201,7 @@ impl Area {
         Area::LineLoad,
         Area::Words,
         Area::Page,
+        Area::Steps,
     ];
 
     pub fn name(self) -> &'static str {
@@ -156,6 +213,7 @@ impl Area {
             Area::LineLoad => "load",
             Area::Words => "words",
             Area::Page => "page",
+            Area::Steps => "steps",
         }
     }
 
@@ -174,6 +232,7 @@ impl Question {
             Question::LineLoad(_) => Area::LineLoad,
             Question::Words(_) => Area::Words,
             Question::PageBuild(_) | Question::PageRead(_) => Area::Page,
+            Question::Steps(_) => Area::Steps,
         }
     }
 
@@ -183,13 +242,14 @@ impl Question {
             Question::Elf(load) | Question::Bzimage(load) => &load.guest,
             Question::LineLoad(load) => &load.guest,
             Question::PageBuild(build) => &build.page,
+            Question::Steps(steps) => &steps.guest,
             Question::Note(_) | Question::Line(_) | Question::Words(_) | Question::PageRead(_) => {
                 &[]
             }
         }
     }
 
-    /// The guest's map, where one is given.
+    /// The guest's map, where one is given; calls of a load in steps have each their own.
     pub fn map(&self) -> Option<&[u64]> {
         match self {
             Question::Elf(load) | Question::Bzimage(load) => load.map.as_deref(),
@@ -198,7 +258,8 @@ impl Question {
             | Question::Line(_)
             | Question::Words(_)
             | Question::PageBuild(_)
-            | Question::PageRead(_) => None,
+            | Question::PageRead(_)
+            | Question::Steps(_) => None,
         }
     }
 
@@ -208,7 +269,7 @@ impl Question {
         given.unwrap_or_else(|| whole(self.guest().len()))
     }
 
-    /// The same question over a map; one without a guest stays as it is.
+    /// The same question over a map; one without a guest stays as it is, and so does a load in steps.
     pub fn over(mut self, map: Map) -> Question {
         match &mut self {
             Question::Elf(load) | Question::Bzimage(load) => load.map = map,
@@ -217,7 +278,8 @@ impl Question {
             | Question::Line(_)
             | Question::Words(_)
             | Question::PageBuild(_)
-            | Question::PageRead(_) => {}
+            | Question::PageRead(_)
+            | Question::Steps(_) => {}
         }
         self
     }

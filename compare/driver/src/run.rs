@@ -23,6 +23,8 @@ pub const EXHAUSTIVE_PARTS: usize = 16;
 
 pub struct Plan {
     pub seed: u64,
+    /// The areas that are asked about.
+    pub areas: Vec<Area>,
     /// How many random questions for each area, in the order of `Area::ALL`.
     pub random: [u64; Area::COUNT],
     /// How many parts of the exhaustive questions are asked, too.
@@ -105,14 +107,16 @@ pub fn run(plan: &Plan, wanted: Wanted, backends: &[&Maker]) -> Outcome {
 fn parts(plan: &Plan) -> Vec<Part> {
     let mut parts = Vec::new();
     for part in 0..plan.exhaustive.min(EXHAUSTIVE_PARTS) {
-        parts.extend(Area::ALL.map(|area| (area, Source::Exhaustive { part })));
+        let of_part = plan.areas.iter();
+        parts.extend(of_part.map(|area| (*area, Source::Exhaustive { part })));
     }
     let longest = plan.random.iter().max().expect("there are areas");
     for part in 0..longest.div_ceil(PART) {
-        for (area, random) in Area::ALL.into_iter().zip(plan.random) {
+        for area in &plan.areas {
+            let random = plan.random[*area as usize];
             let count = random.saturating_sub(part * PART).min(PART);
             if count > 0 {
-                parts.push((area, Source::Random { part, count }));
+                parts.push((*area, Source::Random { part, count }));
             }
         }
     }
@@ -298,7 +302,8 @@ mod tests {
     fn outcome(seed: u64, threads: usize) -> Outcome {
         let plan = Plan {
             seed,
-            random: [300, 300, 20, 9000, 300, 300, 40],
+            areas: Area::ALL.to_vec(),
+            random: [300, 300, 20, 9000, 300, 300, 40, 50],
             exhaustive: 0,
             threads,
             stop_at_difference: false,
@@ -312,7 +317,7 @@ mod tests {
     #[test]
     fn one_seed_gives_one_result_on_any_number_of_threads() {
         let first = outcome(5, 1);
-        assert_eq!(first.cases, [300, 300, 20, 9000, 300, 300, 40]);
+        assert_eq!(first.cases, [300, 300, 20, 9000, 300, 300, 40, 50]);
         assert_eq!(first.numbers, outcome(5, 3).numbers);
         assert_ne!(first.numbers, outcome(6, 1).numbers);
         assert_eq!(first.over_maps, 100 + 7 + 100);

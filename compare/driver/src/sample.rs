@@ -12,6 +12,7 @@ use crate::malformed;
 use crate::over_second;
 use crate::question::{Area, Load, Question};
 use crate::rng::Rng;
+use crate::unclaimed;
 use std::collections::BTreeMap;
 use std::fs;
 use std::io::Result;
@@ -29,6 +30,7 @@ const BUDGET: [(Area, usize); Area::COUNT] = [
     (Area::LineLoad, 60_000),
     (Area::Words, 30_000),
     (Area::Page, 60_000),
+    (Area::Steps, 30_000),
 ];
 
 /// And those of an area over maps, which come behind all others.
@@ -137,7 +139,7 @@ fn questions_of_sample() -> Vec<Question> {
     questions.extend(cut_short());
     for (area, budget) in BUDGET {
         let rng = Rng::for_part(SEED, area as u64, 0);
-        questions.extend(random(rng, budget, |rng| generate::random(area, rng)));
+        questions.extend(random(rng, budget, |rng| claimed(area, rng)));
     }
     questions.extend(cases::all().into_iter().map(|(question, _)| question));
     let smallest = examples::departures().into_iter();
@@ -150,6 +152,17 @@ fn questions_of_sample() -> Vec<Question> {
         }));
     }
     questions
+}
+
+/// A random question of an area whose whole answer is claimed.
+fn claimed(area: Area, rng: &mut Rng) -> Question {
+    let questions = std::iter::repeat_with(|| generate::random(area, rng));
+    let is_claimed = |question: &Question| match (question, over_second::answer(question)) {
+        (Question::Steps(asked), Answer::Steps(told)) => unclaimed::first(asked, &told).is_none(),
+        _ => true,
+    };
+    let mut claimed = questions.filter(is_claimed);
+    claimed.next().expect("most questions are")
 }
 
 /// Random questions that are not long, as many as the budget of bytes allows for them and their answers.
@@ -202,7 +215,7 @@ mod tests {
             .chain(21..=24)
             .chain(31..=32)
             .chain(41..=51)
-            .chain(61..=62)
+            .chain(61..=64)
             .chain(71..=75)
             .chain([77])
             .collect();

@@ -1,6 +1,6 @@
 //! Questions as a person reads them.
 
-use crate::question::{Call, Load, Map, PageBuild, PageRead, Question};
+use crate::question::{Call, Load, Map, Options, PageBuild, PageRead, Question, Steps};
 use std::fmt::Write;
 
 pub fn show(question: &Question) -> String {
@@ -28,7 +28,21 @@ pub fn show(question: &Question) -> String {
         ),
         Question::PageBuild(build) => show_build(build),
         Question::PageRead(read) => show_read(read),
+        Question::Steps(steps) => show_steps(steps),
     }
+}
+
+fn show_steps(steps: &Steps) -> String {
+    let mut text = format!("a load in steps, {:?}", steps.loader);
+    text += &show_options(steps.options);
+    text += &format!(", map {:?}\n", steps.map);
+    for call in &steps.calls {
+        let (from, lent) = (call.place, steps.image(call).len());
+        let map = if call.is_whole { ", whole" } else { "" };
+        text += &format!("  budget {}, {lent} bytes from {from} on", call.budget);
+        text += &format!(", guest {}{map}\n", steps.lent(call));
+    }
+    text + &show_bytes("bytes", &steps.bytes) + &show_bytes("guest", &steps.guest)
 }
 
 fn show_build(build: &PageBuild) -> String {
@@ -48,17 +62,18 @@ fn show_read(read: &PageRead) -> String {
     )
 }
 
-fn show_load(load: &Load) -> String {
+fn show_options(options: Options) -> String {
     let mut text = String::new();
-    for (name, option) in [
-        ("offset", load.options.offset),
-        ("highmem", load.options.highmem),
-    ] {
+    for (name, option) in [("offset", options.offset), ("highmem", options.highmem)] {
         if let Some(number) = option {
             text += &format!(", {name} {number} ({number:#x})");
         }
     }
-    text += &show_map(&load.map);
+    text
+}
+
+fn show_load(load: &Load) -> String {
+    let text = show_options(load.options) + &show_map(&load.map);
     text + "\n" + &show_bytes("image", &load.image) + &show_bytes("guest", &load.guest)
 }
 

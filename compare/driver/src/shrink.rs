@@ -1,6 +1,6 @@
 //! Makes a differing question as small as it can be while it still differs.
 
-use crate::question::{Call, Load, Map, PageBuild, PageRead, Question, Words};
+use crate::question::{Call, Load, Map, PageBuild, PageRead, Question, Steps, Words};
 
 /// How many questions are asked at most in search of a smaller one.
 const PATIENCE: usize = 20_000;
@@ -86,7 +86,35 @@ fn smaller(question: &Question) -> Vec<Question> {
         }
         Question::PageBuild(build) => smaller_builds(build).map(Question::PageBuild).collect(),
         Question::PageRead(read) => smaller_reads(read).map(Question::PageRead).collect(),
+        Question::Steps(steps) => smaller_steps(steps)
+            .into_iter()
+            .map(Question::Steps)
+            .collect(),
     }
+}
+
+/// A call less, a smaller budget, or bytes of the same length that are 0.
+fn smaller_steps(steps: &Steps) -> Vec<Steps> {
+    let changed = |change: &dyn Fn(&mut Steps)| {
+        let mut smaller = steps.clone();
+        change(&mut smaller);
+        smaller
+    };
+    let mut all = Vec::new();
+    for (index, call) in steps.calls.iter().enumerate() {
+        all.push(changed(&|smaller| {
+            smaller.calls.remove(index);
+        }));
+        for budget in smaller_numbers(call.budget) {
+            all.push(changed(&|smaller| smaller.calls[index].budget = budget));
+        }
+    }
+    for map in smaller_maps(&Some(steps.map.clone())).into_iter().flatten() {
+        all.push(changed(&|smaller| smaller.map.clone_from(&map)));
+    }
+    let bytes = smaller_bytes(&steps.bytes).filter(|bytes| bytes.len() == steps.bytes.len());
+    all.extend(bytes.map(|bytes| changed(&|smaller| smaller.bytes.clone_from(&bytes))));
+    all
 }
 
 /// One row less, or one number of the list smaller, or a header of fewer bytes that are not 0.

@@ -9,6 +9,7 @@ mod plain_line;
 mod ranges;
 mod report;
 mod rounds;
+mod steps;
 mod words;
 mod works;
 
@@ -17,7 +18,7 @@ use memory::{Memory, GUEST};
 use works::Pages;
 
 /// Without words: checks that all contestants do the same, measures them, and prints the tables. With the words CONTESTANT WORK
-/// TIMES, or `ranges` HEADERS RANGES TIMES: does one work so often, for a profiler to look at.
+/// TIMES, `ranges` HEADERS RANGES TIMES, or `steps` HEADERS PASSED STEPS: does one work so often, for a profiler to look at.
 pub fn run(published: Option<Box<dyn Contestant>>) {
     let mut contestants: Vec<Box<dyn Contestant>> = vec![Box::new(Plain), Box::new(Library)];
     contestants.extend(published);
@@ -29,10 +30,15 @@ pub fn run(published: Option<Box<dyn Contestant>>) {
             report::print(&works, &contestants);
             ranges::print();
             words::print();
+            steps::print();
         }
         [word, headers, ranges, times] if word == "ranges" => {
             let number = |word: &String| word.parse::<usize>().expect("a number");
             ranges::repeat(number(headers), number(ranges), number(times) as u32);
+        }
+        [word, headers, passed, steps] if word == "steps" => {
+            let number = |word: &String| word.parse::<usize>().expect("a number");
+            steps::repeat(number(headers), number(passed), number(steps));
         }
         [name, line, times] if words::lines().iter().any(|one| one.name == line) => {
             let reader = words::READERS.iter().find(|(reader, _)| reader == name);
@@ -56,6 +62,6 @@ pub fn run(published: Option<Box<dyn Contestant>>) {
             let mut guest = Memory::filled(GUEST, 1);
             work.repeat(contestant.as_ref(), Pages::Touched, &mut guest, times);
         }
-        _ => panic!("the words are CONTESTANT WORK TIMES, ranges HEADERS RANGES TIMES, or none"),
+        _ => panic!("the words are CONTESTANT WORK TIMES, ranges HEADERS RANGES TIMES, steps HEADERS PASSED STEPS, or none"),
     }
 }

@@ -58,6 +58,7 @@ impl Published {
             Question::Words(_) => unreachable!("the crate is not asked for words"),
             Question::PageBuild(build) => pages::build(build),
             Question::PageRead(read) => pages::read(read),
+            Question::Steps(_) => unreachable!("the crate has no load in steps"),
         }
     }
 

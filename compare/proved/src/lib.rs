@@ -3,8 +3,10 @@
 mod lines;
 mod loads;
 mod pages;
+mod portions;
 mod words;
 
+use driver::answer::Answer;
 use driver::backend::{Backend, Reply};
 use driver::question::Question;
 
@@ -26,6 +28,7 @@ impl Backend for Proved {
             Question::Words(asked) => words::read(asked),
             Question::PageBuild(build) => pages::build(build),
             Question::PageRead(read) => pages::read(read),
+            Question::Steps(asked) => Answer::Steps(portions::steps(asked)),
         })
     }
 }

@@ -5,14 +5,14 @@ use driver::answer::{Answer, BzimageLoaded, ElfLoaded, Note, NoteWalked, Pvh};
 use driver::question::{Load, Options, Walk};
 use rekusoyen::entry;
 
-fn flags(options: Options) -> u32 {
+pub fn flags(options: Options) -> u32 {
     let offset = u32::from(options.offset.is_some()) * entry::OFFSET_GIVEN;
     let highmem = u32::from(options.highmem.is_some()) * entry::HIGHMEM_GIVEN;
     offset | highmem
 }
 
 /// PVH by its code, its address, and the place and size of the descriptor that it was read from: all 0 where there is none.
-fn pvh(code: u64, address: u64, place: u64, size: u64) -> Pvh {
+pub fn pvh(code: u64, address: u64, place: u64, size: u64) -> Pvh {
     let untold = || assert_eq!([address, place, size], [0; 3], "there is no note");
     match code {
         0 => {

@@ -83,6 +83,13 @@ pub fn load(
     Ok(Loaded { load, end, header })
 }
 
+/// Every byte that an accepted load writes, in its order: the address in guest memory, and the place in the image.
+pub fn writes(image: &[u8], loaded: &Loaded) -> Vec<(usize, usize)> {
+    let start = setup_size(&loaded.header);
+    let write = |place| (loaded.load as usize + (place - start), place);
+    (start..image.len()).map(write).collect()
+}
+
 /// The setup header; what lies past the image counts as zero.
 fn read_header(image: &[u8]) -> [u8; HEADER_SIZE] {
     let mut header = [0; HEADER_SIZE];

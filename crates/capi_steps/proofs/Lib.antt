@@ -3,5 +3,7 @@ pub mod ListsLaws
 pub mod StatesLaws
 pub mod ElfStepsLaws
 pub mod BzImageStepsLaws
+pub mod KeptLaws
 pub mod StateKept
+pub mod BzImageStateKept
 pub mod Outcomes

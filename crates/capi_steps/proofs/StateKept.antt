@@ -1,13 +1,13 @@
 -- The state of an ELF load that an entry point writes is the state that the next one reads: calls through the entry points, one after the other,
 -- are the loader's own steps.
-use Prim.Native.Nat.{ℕ, zero, suc, _+_}
+use Prim.Native.Nat.{ℕ, _+_}
 use mathlib.Core.Path.{_≡_, refl, sym, ap, subst, _∙_}
 use mathlib.Core.Bool.{Bool, true}
 use mathlib.Core.List.{List, [], _∷_, _++_}
 use native.Mathlib.Omega.{arith}
 use lib.Dec.{leb, eqb}
 use lib.ListN.{length, getD}
-use lib.Seq.{sets, length-sets}
+use lib.Seq.{sets}
 use borrow.Author.Tests.{eq-eqb}
 use Rattle.answers.specs.Pick.{pick}
 use Rattle.answers.specs.Catalogue.{numberOf}
@@ -15,18 +15,16 @@ use Rattle.answers.specs.Tests.{askedAll, AllHold}
 use Rattle.answers.specs.declared.Gate.{Gate}
 use Rattle.answers.specs.declared.Gate.the-variants.{Open, Shut}
 use Rattle.answers.specs.declared.Refusal.{Refusal}
+use Rattle.answers.specs.declared.Refusal.the-variants.{BadList}
 use Rattle.answers.proofs.PickLaws.{pick-with}
-use Rattle.answers.proofs.TestsLaws.{all-open}
-use Rattle.guest.specs.Addresses.{amountOf}
+use Rattle.answers.proofs.TestsLaws.{all-open, hold-append}
 use Rattle.guest.specs.Loading.{Plan}
-use Rattle.guest.specs.Maps.{everySecond, mapOf}
+use Rattle.guest.specs.Maps.{mapOf}
 use Rattle.guest.specs.Room.{memoryOf}
 use Rattle.guest.specs.Steps as steps
 use Rattle.guest.specs.Stream.{pour}
 use Rattle.guest.specs.declared.Given.{Given}
-use Rattle.guest.specs.declared.Given.the-variants.{Nothing, At}
 use Rattle.guest.specs.declared.Map.{Map}
-use Rattle.guest.specs.declared.Memory.{Memory}
 use Rattle.guest.specs.declared.Portion.{Portion}
 use Rattle.guest.specs.declared.Stage.{Stage}
 use Rattle.guest.specs.declared.Stage.the-variants.{Fresh, Copying, Done}
@@ -37,27 +35,16 @@ use Rattle.elf.specs.declared.Answer.the-variants.{Loaded, Refused}
 use Rattle.elf.specs.declared.PvhBootCapability.{PvhBootCapability}
 use Rattle.elf.specs.declared.PvhBootCapability.the-variants.{PvhEntryPresent, PvhEntryNotPresent, PvhEntryIgnored}
 use Rattle.elf.specs.declared.steps.State.{State}
-use Rattle.capi.specs.Loads.{givenBy}
 use Rattle.capi_steps.specs.Refusals.{refusalOf, isKnown}
-use Rattle.capi_steps.specs.States.{numbersFrom, stageCode, stageOf, givenCode, headOf}
-use Rattle.capi_steps.specs.ElfSteps.{answerNumbers, pvhOf, answerOf, answerIn, stateSize, keptOf, withState, stateIn, stateTests, ElfBegins, callTests, callGate, planIn, replyNumber, toldNumbers, stateAfter, numberBehind, leftBehind, ElfSteps}
+use Rattle.capi_steps.specs.States.{keptTests}
+use Rattle.capi_steps.specs.ElfSteps.{answerNumbers, pvhOf, answerOf, answerIn, stateSize, keptOf, withState, stateFrom, stateIn, stateTests, ElfBegins, callTests, callGate, planIn, replyNumber, toldNumbers, stateAfter, numberBehind, leftBehind, ElfSteps}
 use Rattle.capi_steps.specs.StateKept.{Saves, StepsFrom}
-use Rattle.capi_steps.proofs.ListsLaws.{from-behind, from-front-of, laid, getD-fourth}
+use Rattle.capi_steps.specs.declared.load_state.Kept.{Kept}
+use Rattle.capi_steps.proofs.KeptLaws as kept
+use Rattle.capi_steps.proofs.KeptLaws.{Sixteen, map-sixteen, kept-sixteen}
 use Rattle.capi_steps.proofs.RefusalsLaws.{refusal-back, refusal-known, zero-known, not-zero}
-use Rattle.capi_steps.proofs.StatesLaws.{length-numbers}
 
 -- ---- each part read back
-
-stage-back : (s : Stage) → stageOf (stageCode s) ≡ s
-unfolding stageOf stageCode pick
-stage-back Fresh = refl
-stage-back Copying = refl
-stage-back Done = refl
-
-given-back : (g : Given) → givenBy (givenCode g) (amountOf g) ≡ g
-unfolding givenBy givenCode amountOf pick
-given-back Nothing = refl
-given-back (At a) = refl
 
 pvh-back : (p : PvhBootCapability) → pvhOf (pvhCode p) (pvhAddress p) (pvhPlace p) (pvhSize p) ≡ p
 unfolding pvhOf pvhCode pvhAddress pvhPlace pvhSize pick
@@ -84,17 +71,6 @@ answer-back (Refused r) = rw (not-zero r) (ap Refused (refusal-back r))
 
 -- ---- each number passes its test
 
-stage-passes : (s : Stage) → leb (stageCode s) 2 ≡ true
-unfolding stageCode
-stage-passes Fresh = refl
-stage-passes Copying = refl
-stage-passes Done = refl
-
-given-passes : (g : Given) → leb (givenCode g) 1 ≡ true
-unfolding givenCode
-given-passes Nothing = refl
-given-passes (At a) = refl
-
 pvh-passes : (p : PvhBootCapability) → leb (pvhCode p) 2 ≡ true
 unfolding pvhCode
 pvh-passes (PvhEntryPresent note) = refl
@@ -113,46 +89,22 @@ number-passes (Refused r) = refusal-known r
 
 -- ---- a state written
 
--- a memory whose map has sixteen starts and sixteen sizes, as every map has
-record Sixteen (m : Memory) : Type 0 where
-  starts : length (m .map .starts) ≡ 16
-  sizes : length (m .map .sizes) ≡ 16
-
 module _ (st : State) (numbers : List ℕ) (size : length numbers ≡ stateSize) (full : Sixteen (st .progress .memory)) where
+  abbrev told : List ℕ
+  told = answerNumbers (st .answer)
+
+  fits : length numbers ≡ 42 + length told
+  fits = let seven = answer-length (st .answer) in omega arith
+
   abbrev row : List ℕ
-  row = headOf (keptOf st) ++ (st .progress .memory .map .starts ++ (st .progress .memory .map .sizes ++ answerNumbers (st .answer)))
+  row = kept.row (keptOf st) told numbers fits full
 
-  row-written : withState st numbers ≡ row
-  row-written =
-      let seven = answer-length (st .answer) in
-      laid (headOf (keptOf st)) (st .progress .memory .map .starts) (st .progress .memory .map .sizes) (answerNumbers (st .answer)) numbers refl (full .starts)
-      (full .sizes) (omega arith)
+  row-answer : (at n : ℕ) → at ≡ 42 + n → getD row at 0 ≡ getD told n 0
+  row-answer = kept.row-told (keptOf st) told numbers fits full
 
-  row-answer : (at n : ℕ) → at ≡ 42 + n → getD row at 0 ≡ getD (answerNumbers (st .answer)) n 0
-  row-answer at n e =
-      getD-fourth (headOf (keptOf st)) (st .progress .memory .map .starts) (st .progress .memory .map .sizes) (answerNumbers (st .answer)) at n refl (full .starts)
-      (full .sizes) e
-
-  row-starts : numbersFrom 16 row 10 ≡ st .progress .memory .map .starts
-  row-starts =
-      let behind = st .progress .memory .map .sizes ++ answerNumbers (st .answer) in
-      from-behind 16 (headOf (keptOf st)) (st .progress .memory .map .starts ++ behind) 10 0 refl
-      ∙ from-front-of 16 (st .progress .memory .map .starts) behind (full .starts)
-
-  row-sizes : numbersFrom 16 row 26 ≡ st .progress .memory .map .sizes
-  row-sizes =
-      let starts = st .progress .memory .map .starts in
-      let sizes = st .progress .memory .map .sizes in
-      let told = answerNumbers (st .answer) in
-      let sixteen = full .starts in
-      from-behind 16 (headOf (keptOf st)) (starts ++ (sizes ++ told)) 26 16 refl ∙ from-behind 16 starts (sizes ++ told) 16 0 (omega arith)
-      ∙ from-front-of 16 sizes told (full .sizes)
-
-  row-back : stateIn row ≡ st
-  row-back =
+  answer-in : answerIn row ≡ st .answer
+  answer-in =
       rw (
-        row-starts,
-        row-sizes,
         row-answer 42 0 refl,
         row-answer 43 1 refl,
         row-answer 44 2 refl,
@@ -160,50 +112,24 @@ module _ (st : State) (numbers : List ℕ) (size : length numbers ≡ stateSize)
         row-answer 46 4 refl,
         row-answer 47 5 refl,
         row-answer 48 6 refl,
-        stage-back (st .progress .stage),
-        given-back (st .«kernel_offset»),
-        given-back (st .«highmem_start»),
         answer-back (st .answer),
       )
 
-  row-good : AllHold (stateTests row)
-  row-good = (
-    stage-passes (st .progress .stage),
-    (
-      given-passes (st .«kernel_offset»),
-      (
-        given-passes (st .«highmem_start»),
-        (rw (row-answer 45 3 refl) (code-passes (st .answer)), (rw (row-answer 42 0 refl) (number-passes (st .answer)), tt)),
-      ),
-    ),
-  )
+  state-back : stateIn row ≡ st
+  state-back =
+      ap (λ (k : Kept). stateFrom k (answerIn row)) (kept.row-back (keptOf st) told numbers fits full)
+      ∙ ap (λ (a : Answer). stateFrom (keptOf st) a) answer-in
+
+  state-good : AllHold (stateTests row)
+  state-good =
+      hold-append (keptTests row) ((leb (getD row 45 0) 2, BadList) ∷ (isKnown (getD row 42 0), BadList) ∷ [])
+      (kept.row-good (keptOf st) told numbers fits full)
+      (rw (row-answer 45 3 refl) (code-passes (st .answer)), (rw (row-answer 42 0 refl) (number-passes (st .answer)), tt))
 
   written : Saves st (withState st numbers)
   written =
-      subst (Saves st) (sym row-written)
-      (record { size = ap length (sym row-written) ∙ length-written; good = row-good; held = row-back })
-    where
-      length-written : length (withState st numbers) ≡ stateSize
-      length-written =
-          length-sets (sets (sets (sets numbers 0 (headOf (keptOf st))) 10 (st .progress .memory .map .starts)) 26 (st .progress .memory .map .sizes)) 42
-          (answerNumbers (st .answer))
-          ∙ length-sets (sets (sets numbers 0 (headOf (keptOf st))) 10 (st .progress .memory .map .starts)) 26 (st .progress .memory .map .sizes)
-          ∙ length-sets (sets numbers 0 (headOf (keptOf st))) 10 (st .progress .memory .map .starts)
-          ∙ length-sets numbers 0 (headOf (keptOf st))
-          ∙ size
-
--- ---- the maps that a step keeps have sixteen starts and sixteen sizes
-
-length-second : (k : ℕ) (numbers : List ℕ) (at : ℕ) → length (everySecond k numbers at) ≡ k
-unfolding everySecond
-length-second zero numbers at = refl
-length-second (suc k) numbers at = ap suc (length-second k numbers (suc (suc at)))
-
-map-sixteen : (guest map : List ℕ) → Sixteen (memoryOf guest (mapOf map))
-map-sixteen guest map = record { starts = length-second 16 map 0; sizes = length-second 16 map 1 }
-
-state-sixteen : (numbers : List ℕ) → Sixteen (stateIn numbers .progress .memory)
-state-sixteen numbers = record { starts = length-numbers 16 numbers 10; sizes = length-numbers 16 numbers 26 }
+      subst (Saves st) (sym (kept.row-written (keptOf st) told numbers fits full))
+      (record { size = kept.row-length (keptOf st) told numbers fits full ∙ size; good = state-good; held = state-back })
 
 -- ---- a state after a step, whatever is replied
 
@@ -240,8 +166,8 @@ module _ (numbers : List ℕ) (is : Saves (stateIn numbers) numbers) (image gues
       pick-with (λ (x : Plan (steps.Went Answer)). Kept-after (x .answer)) (course .loads)
       (λ _. went-kept (steps.begun course (length image) (memoryOf guest (mapOf map))) _ (map-sixteen guest map))
       (λ _. answered-kept (steps.begun course (length image) (memoryOf guest (mapOf map))) (course .answer) (map-sixteen guest map))
-  stage-kept Copying b = went-kept (heldOf (stateIn numbers)) _ (state-sixteen numbers)
-  stage-kept Done b = answered-kept (heldOf (stateIn numbers)) (stateIn numbers .answer) (state-sixteen numbers)
+  stage-kept Copying b = went-kept (heldOf (stateIn numbers)) _ (kept-sixteen numbers)
+  stage-kept Done b = answered-kept (heldOf (stateIn numbers)) (stateIn numbers .answer) (kept-sixteen numbers)
 
   plan-kept : (b : ℕ)
       → Saves (planIn image numbers b (mapOf map) guest .answer .state)

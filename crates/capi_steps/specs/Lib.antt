@@ -3,3 +3,4 @@ pub mod States
 pub mod ElfSteps
 pub mod BzImageSteps
 pub mod StateKept
+pub mod BzImageStateKept

@@ -1,21 +1,23 @@
 -- "Load in portions", of an ELF load: any run of calls from a load that is not begun, refused calls anywhere between, is the whole load stopped after as many
 -- bytes as the budgets add up to, and the answer is the whole load's. The laws are guest's, for every loader (`guest/proofs/InSteps`); what is
 -- shown here is that the parts of an ELF load are what the whole load writes.
-use Prim.Native.Nat.{ℕ, suc, _+_, _-_, _≤_, _<_, min}
-use mathlib.Core.Path.{_≡_, sym, _∙_, refl, ap, subst⁻¹}
-use mathlib.Core.Bool.{Bool, true, false}
-use mathlib.Core.List.{List, []}
-use lib.Dec.{leb}
-use lib.ListN.{length, take, drop, replicate}
+use Prim.Native.Nat.{ℕ, _-_, _<_}
+use mathlib.Core.Path.{_≡_, sym, _∙_, refl, ap, subst, subst⁻¹}
+use mathlib.Core.List.{List, [], _∷_}
+use lib.ListN.{length}
 use Rattle.answers.specs.Pick.{pick}
-use Rattle.answers.specs.Tests.{AllHold}
+use Rattle.answers.specs.Tests.{askedAll, AllHold}
+use Rattle.answers.specs.declared.Gate.the-variants.{Open, Shut}
+use Rattle.answers.specs.declared.Refusal.{Refusal}
 use Rattle.guest.specs.Addresses.{amountOf}
 use Rattle.guest.specs.Lent.{lentTests}
+use Rattle.guest.specs.Loading.{Loads}
 use Rattle.guest.specs.Parts.{Stands, partsFrom}
-use Rattle.guest.specs.Runs.{wholeOf, total, Runs, answeringStep, Bounded}
+use Rattle.guest.specs.Runs.{wholeOf, Leaves, after-step, after-refused, InPortions, Bounded}
+use Rattle.guest.specs.Room.{memoryOf}
 use Rattle.guest.specs.Steps as steps
-use Rattle.guest.specs.Stream.{Poke}
 use Rattle.guest.specs.declared.Given.{Given}
+use Rattle.guest.specs.declared.Map.{Map}
 use Rattle.guest.specs.declared.Memory.{Memory}
 use Rattle.guest.specs.declared.Stage.the-variants.{Fresh}
 use Rattle.guest.proofs.InSteps as runs
@@ -24,10 +26,12 @@ use Rattle.guest.proofs.StepsLaws.{step-bounded}
 use Rattle.elf.specs.Header.{e-phnum}
 use Rattle.elf.specs.Pouring.{wholeStream, ifLoaded, planOf}
 use Rattle.elf.specs.Portions.{partAt, partOf}
-use Rattle.elf.specs.Steps.{isLoaded, courseOf}
+use Rattle.elf.specs.Steps.{isLoaded, courseOf, heldOf, planFrom, StepSays}
 use Rattle.elf.specs.Verdict.{Accepted, is-accepted}
 use Rattle.elf.specs.declared.Answer.{Answer}
 use Rattle.elf.specs.declared.Answer.the-variants.{Loaded, Refused}
+use Rattle.elf.specs.declared.steps.State.{State}
+use Rattle.elf.specs.declared.steps.Stepped.{Stepped}
 use Rattle.elf.proofs.PortionsLaws.{parts-whole}
 use Rattle.elf.proofs.PouringLaws.{plan-stream}
 
@@ -60,56 +64,29 @@ module _ (image : List ℕ) (m : Memory) (offset highmem : Given) (lent : AllHol
   abbrev course : steps.Course Answer
   course = courseOf image m offset highmem
 
-  -- all that the whole load writes
-  abbrev whole : List Poke
-  whole = planOf image m offset highmem .stream
+  -- every sentence of it
+  pub in-portions : InPortions course image m from (planOf image m offset highmem)
+  in-portions = runs.in-portions course image m (parts-stand image m offset) lent from begins (planOf image m offset highmem) (whole-is image m offset highmem) refl
 
-  module _ {bs : List ℕ} {ps : List Poke} {n : ℕ} {held : steps.Held Answer} (run : Runs course image m from bs ps n held) where
-    -- "a stop between steps leaves the guest as the whole load stopped after that many bytes"; so many bytes were reported
-    pub run-written : ps ≡ take (total bs) whole
-    run-written = runs.run-written course image m (parts-stand image m offset) lent from begins run ∙ ap (take (total bs)) (whole-is image m offset highmem)
+  -- a call of `step` by its contract is the next call of such a run, and keeps the options
+  pub step-leaves : {first bs before after : List ℕ} {map : Map} {st : State} {r : Stepped} (b : ℕ) → 0 < b → memoryOf before map ≡ m
+      → st .«kernel_offset» ≡ offset → st .«highmem_start» ≡ highmem → StepSays image st b map before r after
+      → Leaves course image m from first bs before (heldOf st)
+      → Leaves course image m from first (b ∷ bs) after (heldOf (r .state))
+  step-leaves {first} {bs} {before} {after} {map} {st} {r} b positive em eo eh says leaves =
+      let plan = steps.stepPlan course image m (heldOf st) b in
+      let over : Loads (planFrom st plan) before r after =
+      subst (λ (x : Memory). Loads (planFrom st (steps.stepPlan (courseOf image x offset highmem) image x (heldOf st) b)) before r after) em
+      (subst (λ (h : Given). Loads (planFrom st (steps.stepPlan (courseOf image (memoryOf before map) offset h) image (memoryOf before map) (heldOf st) b)) before r after) eh
+      (subst (λ (o : Given). Loads (planFrom st (steps.stepPlan (courseOf image (memoryOf before map) o (st .«highmem_start»)) image (memoryOf before map) (heldOf st) b)) before r after) eo says)) in
+      subst⁻¹ (Leaves course image m from first (b ∷ bs) after) (ap (λ (x : Stepped). heldOf (x .state)) (over .answer))
+      (after-step b positive (record { answer = refl; memory = over .memory }) leaves)
 
-    pub run-reported : n ≡ min (total bs) (length whole)
-    run-reported =
-        runs.run-reported course image m (parts-stand image m offset) lent from begins run
-        ∙ ap (λ (w : List Poke). min (total bs) (length w)) (whole-is image m offset highmem)
-
-    -- "a step copies exactly the smaller of its budget and what is still to be written"
-    pub next-written : (b : ℕ) → 0 < b → steps.stepPlan course image m held b .stream ≡ take b (drop (total bs) whole)
-    next-written b positive =
-        runs.next-written course image m (parts-stand image m offset) lent from begins run b positive
-        ∙ ap (λ (w : List Poke). take b (drop (total bs) w)) (whole-is image m offset highmem)
-
-    pub next-reported : (b : ℕ) → 0 < b → steps.stepPlan course image m held b .answer .copied ≡ min b (length whole - total bs)
-    next-reported b positive =
-        runs.next-reported course image m (parts-stand image m offset) lent from begins run b positive
-        ∙ ap (λ (w : List Poke). min b (length w - total bs)) (whole-is image m offset highmem)
-
-    -- "the answer comes in the first step at which the budgets given add up to all the bytes the whole load would write before answering", and it
-    -- is the whole load's
-    pub next-reply : (b : ℕ) → 0 < b
-        → steps.stepPlan course image m held b .answer .reply
-        ≡ pick (leb (length whole) (total bs + b)) (steps.answers (planOf image m offset highmem .answer)) steps.more
-    next-reply b positive =
-        runs.next-reply course image m (parts-stand image m offset) lent from begins run b positive
-        ∙ ap (λ (w : List Poke). pick (leb (length w) (total bs + b)) (steps.answers (planOf image m offset highmem .answer)) steps.more)
-        (whole-is image m offset highmem)
-
-  -- "with equal budgets b and t bytes that is step 1, or t divided by b rounded up if greater"
-  pub equal-reply : (b k : ℕ) → 0 < b → {ps : List Poke} {n : ℕ} {held : steps.Held Answer} → Runs course image m from (replicate k b) ps n held
-      → steps.stepPlan course image m held b .answer .reply
-      ≡ pick (leb (answeringStep (length whole) b) (suc k)) (steps.answers (planOf image m offset highmem .answer)) steps.more
-  equal-reply b k positive run =
-      runs.equal-reply course image m (parts-stand image m offset) lent from begins b k positive run
-      ∙ ap (λ (w : List Poke). pick (leb (answeringStep (length w) b) (suc k)) (steps.answers (planOf image m offset highmem .answer)) steps.more)
-      (whole-is image m offset highmem)
-
-  -- the whole load is the one step with a budget that is large enough
-  pub whole-step : (b : ℕ) → 0 < b → length whole ≤ b
-      → (steps.stepPlan course image m from b .stream ≡ whole)
-      × (steps.stepPlan course image m from b .answer .reply ≡ steps.answers (planOf image m offset highmem .answer))
-  whole-step b positive enough =
-      let step =
-      runs.whole-step course image m (parts-stand image m offset) lent from begins b positive
-      (subst⁻¹ (λ (w : List Poke). length w ≤ b) (whole-is image m offset highmem) enough) in
-      (step .0 ∙ whole-is image m offset highmem, step .1)
+  -- and a call that is refused, with whatever it is lent, is one of its calls that are no steps
+  pub refused-leaves : (image' : List ℕ) (map : Map) {first bs before after : List ℕ} {st : State} {r : Stepped} (b : ℕ) {refusal : Refusal}
+      → askedAll Open (steps.stepTests (st .progress) (length image') (memoryOf before map) b) ≡ Shut refusal → StepSays image' st b map before r after
+      → Leaves course image m from first bs before (heldOf st) → Leaves course image m from first bs after (heldOf (r .state))
+  refused-leaves image' map {first} {bs} {before} {after} {st} {r} b shut says leaves =
+      subst⁻¹ (Leaves course image m from first bs after) (ap (λ (x : Stepped). heldOf (x .state)) (says .answer))
+      (after-refused (courseOf image' (memoryOf before map) (st .«kernel_offset») (st .«highmem_start»)) image' (memoryOf before map) b shut
+      (record { answer = refl; memory = says .memory }) leaves)

@@ -1,5 +1,5 @@
 -- A load in steps is the whole load, stopped after as many bytes as the budgets add up to. Said once for every loader, of any run of calls from a load
--- that is not begun, refused calls anywhere between: `run-written`, `run-reported`, `next-reply`, `equal-reply`, `whole-step`.
+-- that is not begun, refused calls anywhere between: `in-portions`.
 use Prim.Native.Nat.{ℕ, zero, suc, _+_, _-_, _*_, _/_, _≤_, _<_, min, max}
 use mathlib.Core.Path.{_≡_, sym, _∙_, refl, ap, subst, subst⁻¹}
 use mathlib.Core.Bool.{Bool, true, false}
@@ -17,15 +17,16 @@ use Rattle.answers.proofs.PickLaws.{pick-with}
 use Rattle.guest.specs.Lent.{lentTests}
 use Rattle.guest.specs.Loading.{Plan}
 use Rattle.guest.specs.Parts.{Stands, Place, placeAfter, partsFrom, leftOf, portionOf}
-use Rattle.guest.specs.Runs.{wholeOf, total, Runs, start, step, no-step, answeringStep}
+use Rattle.guest.specs.Runs.{wholeOf, total, Runs, start, step, no-step, Leaves, untouched, after-step, after-refused, answeringStep, InPortions}
 use Rattle.guest.specs.Steps.{Course, Held, more, answers, Went, asFirst, movedTo, still, wentTo, goOn, begunWith, begun, firstStep, byStage, stepPlan}
-use Rattle.guest.specs.Stream.{Poke}
+use Rattle.guest.specs.Stream.{Poke, pour}
 use Rattle.guest.specs.declared.Memory.{Memory}
 use Rattle.guest.specs.declared.Part.{Part}
 use Rattle.guest.specs.declared.Stage.{Stage}
 use Rattle.guest.specs.declared.Stage.the-variants.{Fresh, Copying, Done}
 use Rattle.guest.proofs.PartsLaws.{leb-same, left-after-portion}
 use Rattle.guest.proofs.StepsLaws.{fresh-first, later-first, step-open, step-refused}
+use Rattle.guest.proofs.StreamLaws.{pour-append}
 
 -- ---- lists and numbers
 
@@ -198,27 +199,65 @@ module _ {A : Type 0} (c : Course A) (image : List ℕ) (m : Memory) (stand : (j
           stands = before .stands;
         })
 
-    -- the guest is that of the whole load stopped after as many bytes as the budgets add up to, and so many bytes were reported
-    pub run-written : {bs : List ℕ} {ps : List Poke} {n : ℕ} {held : Held A} → Runs c image m from bs ps n held → ps ≡ take (total bs) (whole c image m)
+    -- what is written is what the whole load writes first, as many bytes as the budgets add up to, and so many bytes were reported
+    run-written : {bs : List ℕ} {ps : List Poke} {n : ℕ} {held : Held A} → Runs c image m from bs ps n held → ps ≡ take (total bs) (whole c image m)
     run-written runs = ran runs .written
 
-    pub run-reported : {bs : List ℕ} {ps : List Poke} {n : ℕ} {held : Held A} → Runs c image m from bs ps n held
+    run-reported : {bs : List ℕ} {ps : List Poke} {n : ℕ} {held : Held A} → Runs c image m from bs ps n held
         → n ≡ min (total bs) (length (whole c image m))
     run-reported runs = ran runs .reported
 
+    -- a run by guest memory is a run, whose stream was poured into it
+    record Traced (first bs guest : List ℕ) (held : Held A) : Type 0 where
+      ps : List Poke
+      n : ℕ
+      runs : Runs c image m from bs ps n held
+      poured : guest ≡ pour ps first
+
+    traced : {first bs guest : List ℕ} {held : Held A} → Leaves c image m from first bs guest held → Traced first bs guest held
+    unfolding pour
+    traced untouched = record { ps = []; n = 0; runs = start; poured = refl }
+    traced {first} (after-step {bs} {held = held} b positive loads leaves) =
+        let t = traced leaves in
+        let plan = stepPlan c image m held b in
+        record {
+          ps = t .ps ++ plan .stream;
+          n = t .n + plan .answer .copied;
+          runs =
+              subst⁻¹ (λ (w : Went A). Runs c image m from (b ∷ bs) (t .ps ++ plan .stream) (t .n + plan .answer .copied) (w .held)) (loads .answer)
+              (step b positive (t .runs));
+          poured = loads .memory ∙ ap (pour (plan .stream)) (t .poured) ∙ sym (pour-append (t .ps) (plan .stream) first);
+        }
+    traced {first} (after-refused {bs} {held = held} other image' m' b e loads leaves) =
+        let t = traced leaves in
+        let plan = stepPlan other image' m' held b in
+        record {
+          ps = t .ps ++ plan .stream;
+          n = t .n + plan .answer .copied;
+          runs =
+              subst⁻¹ (λ (w : Went A). Runs c image m from bs (t .ps ++ plan .stream) (t .n + plan .answer .copied) (w .held)) (loads .answer)
+              (no-step other image' m' b e (t .runs));
+          poured = loads .memory ∙ ap (pour (plan .stream)) (t .poured) ∙ sym (pour-append (t .ps) (plan .stream) first);
+        }
+
+    -- the guest is that of the whole load stopped after as many bytes as the budgets add up to
+    run-guest : {first bs guest : List ℕ} {held : Held A} → Leaves c image m from first bs guest held
+        → guest ≡ pour (take (total bs) (whole c image m)) first
+    run-guest {first} leaves = let t = traced leaves in t .poured ∙ ap (λ ps. pour ps first) (run-written (t .runs))
+
     -- the next step writes and reports exactly the smaller of its budget and what is left, and answers where the budgets add up to all bytes
     module _ {bs : List ℕ} {ps : List Poke} {n : ℕ} {held : Held A} (runs : Runs c image m from bs ps n held) (b : ℕ) (positive : 0 < b) where
-      pub next-written : stepPlan c image m held b .stream ≡ take b (drop (total bs) (whole c image m))
+      next-written : stepPlan c image m held b .stream ≡ take b (drop (total bs) (whole c image m))
       next-written = once held b positive (ran runs .stands) .writes
 
-      pub next-reported : stepPlan c image m held b .answer .copied ≡ min b (length (whole c image m) - total bs)
+      next-reported : stepPlan c image m held b .answer .copied ≡ min b (length (whole c image m) - total bs)
       next-reported = once held b positive (ran runs .stands) .reports
 
-      pub next-reply : stepPlan c image m held b .answer .reply ≡ pick (leb (length (whole c image m)) (total bs + b)) (answers (c .answer)) more
+      next-reply : stepPlan c image m held b .answer .reply ≡ pick (leb (length (whole c image m)) (total bs + b)) (answers (c .answer)) more
       next-reply = once held b positive (ran runs .stands) .replies
 
     -- a budget that is large enough is the whole load in one step
-    pub whole-step : (b : ℕ) → 0 < b → length (whole c image m) ≤ b
+    whole-step : (b : ℕ) → 0 < b → length (whole c image m) ≤ b
         → (stepPlan c image m from b .stream ≡ whole c image m) × (stepPlan c image m from b .answer .reply ≡ answers (c .answer))
     unfolding total pick
     whole-step b positive enough = (
@@ -232,9 +271,27 @@ module _ {A : Type 0} (c : Course A) (image : List ℕ) (m : Memory) (stand : (j
     equal-total zero b = sym (zero-mul b)
     equal-total (suc k) b = ap (λ n. b + n) (equal-total k b) ∙ add-comm b (k * b) ∙ sym (suc-mul k b)
 
-    pub equal-reply : (b k : ℕ) → 0 < b → {ps : List Poke} {n : ℕ} {held : Held A} → Runs c image m from (replicate k b) ps n held
+    equal-reply : (b k : ℕ) → 0 < b → {ps : List Poke} {n : ℕ} {held : Held A} → Runs c image m from (replicate k b) ps n held
         → stepPlan c image m held b .answer .reply ≡ pick (leb (answeringStep (length (whole c image m)) b) (suc k)) (answers (c .answer)) more
     equal-reply b k positive runs =
         next-reply runs b positive
         ∙ ap (λ (x : Bool). pick x (answers (c .answer)) more)
         (ap (λ n. leb (length (whole c image m)) (n + b)) (equal-total k b) ∙ answering (length (whole c image m)) b k positive)
+
+    -- all of it, of a load whose plan writes these parts
+    pub in-portions : (plan : Plan A) → whole c image m ≡ plan .stream → c .answer ≡ plan .answer → InPortions c image m from plan
+    in-portions plan ew ea =
+        subst (InPortions c image m from) (planned ew ea)
+        (record {
+          run-guest = λ leaves. run-guest leaves;
+          run-written = λ runs. run-written runs;
+          run-reported = λ runs. run-reported runs;
+          next-written = λ runs b positive. next-written runs b positive;
+          next-reported = λ runs b positive. next-reported runs b positive;
+          next-reply = λ runs b positive. next-reply runs b positive;
+          equal-reply = λ b k positive runs. equal-reply b k positive runs;
+          whole-step = whole-step;
+        })
+      where
+        planned : {plan : Plan A} → whole c image m ≡ plan .stream → c .answer ≡ plan .answer → record { answer = c .answer; stream = whole c image m } ≡ plan
+        planned ew ea = rw (ew, ea)

@@ -20,11 +20,11 @@ fn given(body: &[u8], at: u64, is_given: bool) -> Given {
     }
 }
 
-fn offset(body: &[u8]) -> Given {
+pub fn offset(body: &[u8]) -> Given {
     given(body, 2, numbers::byte_at(body, 1, 0) % 2 == 1)
 }
 
-fn highmem(body: &[u8]) -> Given {
+pub fn highmem(body: &[u8]) -> Given {
     given(body, 10, numbers::byte_at(body, 1, 0) / 2 % 2 == 1)
 }
 
@@ -43,7 +43,7 @@ fn pvh(pvh: PvhBootCapability) {
     }
 }
 
-fn elf_answer(answer: elf::Answer) {
+pub fn elf_answer(answer: elf::Answer) {
     match answer {
         elf::Answer::Loaded(result) => {
             telling::word(b"elf ok");
@@ -67,7 +67,7 @@ fn load_elf(body: &[u8], map: Map, image: &[u8], before: &[u8], guest: &mut [u8]
     telling::guest(before, guest);
 }
 
-fn bzimage_answer(outcome: bzimage::Outcome) {
+pub fn bzimage_answer(outcome: bzimage::Outcome) {
     let answer = outcome.answer;
     let header = outcome.setup_header;
     match answer {

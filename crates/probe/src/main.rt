@@ -8,6 +8,7 @@ mod lines;
 mod loads;
 mod mapped;
 mod pages;
+mod portions;
 mod telling;
 
 // The longest body of a question: an image and a guest of 1 MiB each, and room for the rest.
@@ -35,6 +36,7 @@ fn answer(body: &[u8], guest: &mut [u8]) {
         9 => line_words::read(body),
         10 => pages::build(body, guest),
         11 => pages::read(body, guest),
+        14 | 15 => portions::steps(body, guest),
         _ => telling::malformed(b"no such kind"),
     }
 }

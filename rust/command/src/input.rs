@@ -1,7 +1,9 @@
 //! The image, from standard input, and guest memory.
 
 use std::ffi::{c_int, c_void};
-use std::io::{self, IsTerminal, Read, Write};
+use std::io::{self, Read};
+
+use crate::progress;
 
 /// How many bytes are read between two looks at the progress line.
 const PIECE: u64 = 1 << 20;
@@ -13,8 +15,7 @@ pub const LONGEST: usize = 4 << 30;
 /// is, if somebody looks.
 pub fn image(mut reader: impl Read, longest: usize) -> io::Result<Vec<u8>> {
     let mut image = Vec::new();
-    let watched = io::stderr().is_terminal();
-    let mut shown = false;
+    let mut line = progress::on_terminal();
     loop {
         let read = reader.by_ref().take(PIECE).read_to_end(&mut image)?;
         if image.len() > longest {
@@ -23,20 +24,10 @@ pub fn image(mut reader: impl Read, longest: usize) -> io::Result<Vec<u8>> {
             )));
         }
         if (read as u64) < PIECE {
-            break;
+            return Ok(image);
         }
-        if watched {
-            let mut terminal = io::stderr();
-            let _ = write!(terminal, "\rread {} MiB", image.len() >> 20);
-            let _ = terminal.flush();
-            shown = true;
-        }
+        line.show("read", image.len() as u64);
     }
-    if shown {
-        // the line's words, blanked
-        let _ = write!(io::stderr(), "\r{:24}\r", "");
-    }
-    Ok(image)
 }
 
 /// Guest memory of zeros. Of a large one the system keeps only the pages that are written, where it gives memory lazily.

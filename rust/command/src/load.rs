@@ -2,13 +2,17 @@
 
 use rekusoyen::cmdline::Cmdline;
 use rekusoyen::loader::elf::PvhNote;
-use rekusoyen::loader::{load_cmdline_into, BzImage, Elf, KernelLoaderResult};
-use rekusoyen::{GuestAddress, Refusal};
+use rekusoyen::loader::{load_cmdline_into, BzImage, Elf, KernelLoaderResult, Step, StepError};
+use rekusoyen::{GuestAddress, Map, Refusal};
+use std::num::NonZeroU64;
 
 use crate::arguments::{Format, Load};
 
 /// The capacity of the command line: the greatest there is.
 pub const CAPACITY: usize = rekusoyen::entry::LIMIT;
+
+/// How many bytes of an image are copied between two words about how far the load is.
+const PORTION: u64 = 1 << 20;
 
 /// What an accepted load did.
 pub struct Loaded {
@@ -46,8 +50,14 @@ pub fn format_of(image: &[u8], asked: Format) -> Format {
     }
 }
 
-/// Loads the image, and the line behind it or where it was told to go.
-pub fn load(guest: &mut [u8], image: &[u8], asked: &Load) -> Result<Loaded, Refused> {
+/// Loads the image in portions, and the line behind it or where it was told to go. `copied` hears after each portion but the last how many
+/// bytes were copied by then.
+pub fn load(
+    guest: &mut [u8],
+    image: &[u8],
+    asked: &Load,
+    copied: impl FnMut(u64),
+) -> Result<Loaded, Refused> {
     let format = format_of(image, asked.format);
     let refused = |line_at| {
         move |refusal| Refused {
@@ -57,13 +67,19 @@ pub fn load(guest: &mut [u8], image: &[u8], asked: &Load) -> Result<Loaded, Refu
         }
     };
     let (offset, highmem) = (asked.offset, asked.highmem);
+    let (map, budget) = (Map::whole(guest.len()), NonZeroU64::new(PORTION));
+    let budget = budget.expect("a portion has bytes");
     let loaded = match format {
         Format::BzImage => {
-            BzImage::load_into(guest, offset, image, highmem).map(|kernel| (kernel, None))
+            let portions = BzImage::load_in_portions(guest, &map, offset, image, highmem, budget);
+            answered(portions, copied).map(|kernel| (kernel, None))
         }
-        _ => Elf::load_into_with_note(guest, offset, image, highmem),
+        _ => {
+            let portions = Elf::load_in_portions(guest, &map, offset, image, highmem, budget);
+            answered(portions, copied)
+        }
     };
-    let (kernel, note) = loaded.map_err(refusal_of).map_err(refused(None))?;
+    let (kernel, note) = loaded.map_err(refused(None))?;
     let line = match &asked.cmdline {
         None => None,
         Some(text) => {
@@ -80,6 +96,23 @@ pub fn load(guest: &mut [u8], image: &[u8], asked: &Load) -> Result<Loaded, Refu
     })
 }
 
+/// The answer of a load in portions.
+fn answered<T>(
+    portions: impl Iterator<Item = Result<Step<T>, StepError>>,
+    mut copied: impl FnMut(u64),
+) -> Result<T, Refusal> {
+    let mut so_far = 0;
+    for step in portions {
+        let step = step.map_err(StepError::refusal)?;
+        so_far += step.copied;
+        match step.answer {
+            Some(answer) => return answer.map_err(refusal_of),
+            None => copied(so_far),
+        }
+    }
+    unreachable!("the last step answers")
+}
+
 /// Puts a line into guest memory; how many bytes it takes, its zero counted.
 fn put_line(guest: &mut [u8], at: GuestAddress, text: &str) -> Result<u64, Refusal> {
     let line = Cmdline::try_from(text, CAPACITY).map_err(|error| error.refusal())?;
@@ -92,4 +125,31 @@ fn refusal_of(error: rekusoyen::loader::Error) -> Refusal {
     error
         .refusal()
         .expect("over bytes every error stands for a refusal")
+}
+
+#[cfg(test)]
+mod tests {
+    use super::*;
+    use crate::arguments::Format;
+
+    #[test]
+    fn each_portion_but_the_last_is_told() {
+        let mut image = vec![7; 1024 + 2 * PORTION as usize + 1];
+        for (place, byte) in [(0x1f1, 1), (0x207, 2), (0x211, 1)] {
+            image[place] = byte;
+        }
+        image[0x202..0x206].copy_from_slice(b"HdrS");
+        image[0x214..0x218].fill(0);
+        let mut guest = vec![0; 4 * PORTION as usize];
+        let mut told = Vec::new();
+        let asked = Load {
+            format: Format::BzImage,
+            ..Load::default()
+        };
+        let loaded = load(&mut guest, &image, &asked, |bytes| told.push(bytes));
+        let kernel = loaded.expect("there is room").kernel;
+        assert_eq!(told, [PORTION, 2 * PORTION]);
+        assert_eq!(kernel.kernel_end, 2 * PORTION + 1);
+        assert_eq!(guest[..kernel.kernel_end as usize], image[1024..]);
+    }
 }

@@ -6,6 +6,7 @@ mod explain;
 mod input;
 mod load;
 mod notes;
+mod progress;
 mod report;
 mod sizes;
 mod words;
@@ -125,7 +126,12 @@ fn from_input(name: &str, asked: &Load) -> Result<Answer, Failure> {
             asked.guest
         ))
     })?;
-    match load::load(guest.bytes(), &image, asked) {
+    let mut line = progress::on_terminal();
+    let loaded = load::load(guest.bytes(), &image, asked, |bytes| {
+        line.show("copied", bytes)
+    });
+    drop(line);
+    match loaded {
         Ok(loaded) => {
             let mut result = String::new();
             if asked.verbose {
@@ -163,7 +169,8 @@ fn built_in() -> Answer {
         cmdline: Some("quiet".to_string()),
         ..Load::default()
     };
-    let loaded = load::load(&mut guest, &image, &asked).expect("the built-in image is a good one");
+    let loaded = load::load(&mut guest, &image, &asked, |_| {});
+    let loaded = loaded.expect("the built-in image is a good one");
     Answer::of(format!(
         "A built-in ELF image of {} bytes and the command line 'quiet', loaded into {} bytes of guest memory:\n\n{}{}\n{}\n{}\n{}\n",
         image.len(),

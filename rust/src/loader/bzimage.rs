@@ -54,6 +54,7 @@ impl fmt::Display for Error {
 impl std::error::Error for Error {}
 
 /// Big zImage (bzImage) kernel image support.
+#[derive(Clone, Copy, Debug, PartialEq, Eq)]
 pub struct BzImage;
 
 impl BzImage {
@@ -107,11 +108,15 @@ pub(super) fn loaded(
     image: &[u8],
     options: Options,
 ) -> std::result::Result<KernelLoaderResult, Refusal> {
-    let loaded = lent::bzimage_load(guest, image, options)?;
-    Ok(KernelLoaderResult {
+    lent::bzimage_load(guest, image, options).map(by_values)
+}
+
+/// What the values of an accepted load say.
+pub(super) fn by_values(loaded: lent::BzImageLoaded) -> KernelLoaderResult {
+    KernelLoaderResult {
         kernel_load: GuestAddress(loaded.kernel_load),
         kernel_end: loaded.kernel_end,
         setup_header: Some(bootparam::setup_header::from(loaded.setup_header)),
         ..Default::default()
-    })
+    }
 }

@@ -138,6 +138,7 @@ fn pvh_note(code: u64, place: u64, size: u64) -> Option<PvhNote> {
 }
 
 /// Raw ELF (a.k.a. vmlinux) kernel image support.
+#[derive(Clone, Copy, Debug, PartialEq, Eq)]
 pub struct Elf;
 
 impl Elf {

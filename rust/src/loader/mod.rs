@@ -29,7 +29,7 @@ pub use elf::*;
 #[cfg(feature = "vm-memory")]
 pub use guest_memory::{load_cmdline, KernelLoader};
 pub use over_map::{load_cmdline_into_map, MapError};
-pub use portions::{ElfSteps, Portions, Step, StepError};
+pub use portions::{BzImageSteps, ElfSteps, InSteps, Portions, Step, StepError, Steps};
 
 /// Why a kernel or a line was not put into guest memory.
 #[derive(Clone, Copy, Debug, PartialEq, Eq)]

@@ -1,21 +1,21 @@
-//! ELF images loaded in steps, each with a budget of bytes.
+//! Images loaded in steps, each with a budget of bytes.
 
 use std::fmt;
 use std::num::NonZeroU64;
 
-use super::{elf, told, Elf, KernelLoaderResult, PvhNote, Result};
+use super::{bzimage, elf, told, BzImage, Elf, KernelLoaderResult, PvhNote, Result};
 use crate::entry;
 use crate::lent::{self, Guest, Options};
 use crate::refusal::answered;
 use crate::{GuestAddress, Map, Refusal};
 
-/// What a step of a load did.
+/// What a step of a load did; `T` is what an accepted load tells.
 #[derive(Clone, Debug, PartialEq)]
-pub struct Step {
+pub struct Step<T> {
     /// How many bytes it copied.
     pub copied: u64,
-    /// The load's answer, once all its bytes are copied: what [`Elf::load_into_with_note`] answers.
-    pub answer: Option<Result<(KernelLoaderResult, Option<PvhNote>)>>,
+    /// The load's answer, once all its bytes are copied: that of the whole load.
+    pub answer: Option<Result<T>>,
 }
 
 /// Why a call was no step. It changed nothing.
@@ -62,13 +62,103 @@ impl fmt::Display for StepError {
 
 impl std::error::Error for StepError {}
 
-/// A load of an ELF image between two steps. It is a value of its own: a clone goes on from the same place.
-#[derive(Clone, Debug, PartialEq, Eq)]
-pub struct ElfSteps {
-    state: [u64; entry::ELF_STATE],
+/// A loader that can load in steps: [`Elf`] and [`BzImage`].
+pub trait InSteps: sealed::Sealed {
+    /// What is kept between two steps, as the library writes it.
+    #[doc(hidden)]
+    type State: Clone + fmt::Debug + PartialEq + Eq;
+
+    /// What an accepted load tells.
+    type Loaded;
+
+    #[doc(hidden)]
+    fn begin(options: sealed::Begin) -> Self::State;
+
+    #[doc(hidden)]
+    fn step(state: &mut Self::State, lent: sealed::Lent) -> sealed::Stepped<Self::Loaded>;
 }
 
-impl ElfSteps {
+mod sealed {
+    use super::{Options, Refusal, Step};
+    use crate::lent::Guest;
+
+    pub trait Sealed {}
+
+    impl Sealed for super::Elf {}
+    impl Sealed for super::BzImage {}
+
+    pub struct Begin(pub(super) Options);
+
+    pub struct Lent<'a> {
+        pub(super) guest: Guest<'a>,
+        pub(super) image: &'a [u8],
+        pub(super) budget: u64,
+    }
+
+    pub type Stepped<T> = Result<Step<T>, Refusal>;
+}
+
+/// The answer of a step, where there is one.
+fn answer<T>(
+    answers: u64,
+    number: u64,
+    loaded: impl FnOnce() -> T,
+    told: fn(Refusal) -> super::Error,
+) -> Option<Result<T>> {
+    (answers == 1).then(|| answered(number as u32).map(|()| loaded()).map_err(told))
+}
+
+impl InSteps for Elf {
+    type State = [u64; entry::ELF_STATE];
+    type Loaded = (KernelLoaderResult, Option<PvhNote>);
+
+    fn begin(options: sealed::Begin) -> Self::State {
+        lent::elf_begin(options.0)
+    }
+
+    fn step(state: &mut Self::State, lent: sealed::Lent) -> sealed::Stepped<Self::Loaded> {
+        let told = lent::elf_step(lent.guest, lent.image, state, lent.budget)?;
+        let [copied, answers, number, values @ ..] = told;
+        let answer = answer(answers, number, || elf::by_values(values), told::by_elf);
+        Ok(Step { copied, answer })
+    }
+}
+
+impl InSteps for BzImage {
+    type State = lent::BzImageState;
+    type Loaded = KernelLoaderResult;
+
+    fn begin(options: sealed::Begin) -> Self::State {
+        lent::bzimage_begin(options.0)
+    }
+
+    fn step(state: &mut Self::State, lent: sealed::Lent) -> sealed::Stepped<Self::Loaded> {
+        let told = lent::bzimage_step(lent.guest, lent.image, state, lent.budget)?;
+        let [copied, answers, number, kernel_load, kernel_end] = told;
+        let loaded = lent::BzImageLoaded {
+            kernel_load,
+            kernel_end,
+            setup_header: state.setup_header,
+        };
+        let loaded = || bzimage::by_values(loaded);
+        let answer = answer(answers, number, loaded, told::by_bzimage);
+        Ok(Step { copied, answer })
+    }
+}
+
+/// A load between two steps. It is a value of its own: a clone goes on from the same place.
+#[derive(Clone, Debug, PartialEq, Eq)]
+pub struct Steps<L: InSteps> {
+    state: L::State,
+}
+
+/// A load of an ELF image between two steps.
+pub type ElfSteps = Steps<Elf>;
+
+/// A load of a bzImage between two steps.
+pub type BzImageSteps = Steps<BzImage>;
+
+impl<L: InSteps> Steps<L> {
     /// A load that is not begun.
     pub fn new(
         kernel_offset: Option<GuestAddress>,
@@ -78,8 +168,8 @@ impl ElfSteps {
             offset: kernel_offset,
             highmem: highmem_start_address,
         };
-        ElfSteps {
-            state: lent::elf_begin(options),
+        Steps {
+            state: L::begin(sealed::Begin(options)),
         }
     }
 
@@ -91,27 +181,20 @@ impl ElfSteps {
         map: &Map,
         kernel_image: &[u8],
         budget: u64,
-    ) -> std::result::Result<Step, StepError> {
-        let told = lent::elf_step(
-            Guest::over(guest, map),
-            kernel_image,
-            &mut self.state,
+    ) -> std::result::Result<Step<L::Loaded>, StepError> {
+        let lent = sealed::Lent {
+            guest: Guest::over(guest, map),
+            image: kernel_image,
             budget,
-        );
-        let [copied, answers, number, values @ ..] = told.map_err(StepError::of)?;
-        let answer = (answers == 1).then(|| {
-            answered(number as u32)
-                .map(|()| elf::by_values(values))
-                .map_err(told::by_elf)
-        });
-        Ok(Step { copied, answer })
+        };
+        L::step(&mut self.state, lent).map_err(StepError::of)
     }
 }
 
 /// The steps of one load, all with one budget: an iterator that ends behind the step that answers, or behind a call that was refused.
 #[derive(Debug)]
-pub struct Portions<'a> {
-    load: ElfSteps,
+pub struct Portions<'a, L: InSteps> {
+    load: Steps<L>,
     guest: &'a mut [u8],
     map: &'a Map,
     image: &'a [u8],
@@ -119,8 +202,28 @@ pub struct Portions<'a> {
     ended: bool,
 }
 
-impl Iterator for Portions<'_> {
-    type Item = std::result::Result<Step, StepError>;
+impl<'a, L: InSteps> Portions<'a, L> {
+    /// The steps of a load that is not begun, each with this budget.
+    pub fn new(
+        load: Steps<L>,
+        guest: &'a mut [u8],
+        map: &'a Map,
+        kernel_image: &'a [u8],
+        budget: NonZeroU64,
+    ) -> Self {
+        Portions {
+            load,
+            guest,
+            map,
+            image: kernel_image,
+            budget,
+            ended: false,
+        }
+    }
+}
+
+impl<L: InSteps> Iterator for Portions<'_, L> {
+    type Item = std::result::Result<Step<L::Loaded>, StepError>;
 
     fn next(&mut self) -> Option<Self::Item> {
         if self.ended {
@@ -137,10 +240,11 @@ impl Iterator for Portions<'_> {
     }
 }
 
-impl std::iter::FusedIterator for Portions<'_> {}
+impl<L: InSteps> std::iter::FusedIterator for Portions<'_, L> {}
 
 impl Elf {
-    /// Loads an image in portions of `budget` bytes, so that a monitor can do something between them.
+    /// Loads an image in portions of `budget` bytes, so that a monitor can do something between them, such as to pat the watchdog that would
+    /// else end it.
     ///
     /// ```
     /// use rekusoyen::loader::Elf;
@@ -175,14 +279,50 @@ impl Elf {
         kernel_image: &'a [u8],
         highmem_start_address: Option<GuestAddress>,
         budget: NonZeroU64,
-    ) -> Portions<'a> {
-        Portions {
-            load: ElfSteps::new(kernel_offset, highmem_start_address),
-            guest,
-            map,
-            image: kernel_image,
-            budget,
-            ended: false,
-        }
+    ) -> Portions<'a, Elf> {
+        let load = Steps::new(kernel_offset, highmem_start_address);
+        Portions::new(load, guest, map, kernel_image, budget)
+    }
+}
+
+impl BzImage {
+    /// Loads a bzImage in portions of `budget` bytes, as [`Elf::load_in_portions`] does an ELF image.
+    ///
+    /// ```
+    /// use rekusoyen::loader::BzImage;
+    /// use rekusoyen::{GuestAddress, Map};
+    /// use std::num::NonZeroU64;
+    ///
+    /// # let mut image = vec![0u8; 1024 + 3];
+    /// # image[0x1f1] = 1;
+    /// # image[0x202..0x206].copy_from_slice(b"HdrS");
+    /// # image[0x207] = 2;
+    /// # image[0x211] = 1;
+    /// # image[1024..].copy_from_slice(b"abc");
+    /// # let mut pats = 0;
+    /// # let mut pat_watchdog = || pats += 1;
+    /// let (mut guest, offset) = ([0u8; 32], Some(GuestAddress(8)));
+    /// let map = Map::whole(guest.len());
+    /// let mut answer = None;
+    /// for step in BzImage::load_in_portions(&mut guest, &map, offset, &image, None, NonZeroU64::new(2).unwrap()) {
+    ///     pat_watchdog();
+    ///     answer = step?.answer;
+    /// }
+    /// let kernel = answer.expect("the last step answers")?;
+    /// assert_eq!((kernel.kernel_load, kernel.kernel_end), (GuestAddress(8), 11));
+    /// assert_eq!(&guest[8..11], b"abc");
+    /// # assert_eq!(pats, 2);
+    /// # Ok::<(), Box<dyn std::error::Error>>(())
+    /// ```
+    pub fn load_in_portions<'a>(
+        guest: &'a mut [u8],
+        map: &'a Map,
+        kernel_offset: Option<GuestAddress>,
+        kernel_image: &'a [u8],
+        highmem_start_address: Option<GuestAddress>,
+        budget: NonZeroU64,
+    ) -> Portions<'a, BzImage> {
+        let load = Steps::new(kernel_offset, highmem_start_address);
+        Portions::new(load, guest, map, kernel_image, budget)
     }
 }

@@ -9,6 +9,7 @@ mod load;
 mod maps;
 mod note;
 mod page;
+mod steps;
 mod text;
 mod words;
 
@@ -28,6 +29,7 @@ pub fn random(area: Area, rng: &mut Rng) -> Question {
         Area::LineLoad => Question::LineLoad(load::question(rng)),
         Area::Words => Question::Words(words::question(rng)),
         Area::Page => page::question(rng),
+        Area::Steps => Question::Steps(steps::question(rng)),
     }
 }
 

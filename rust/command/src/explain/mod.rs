@@ -263,7 +263,7 @@ mod tests {
 
     fn answer(image: &[u8], asked: &Load) -> Result<(), Refused> {
         let mut guest = input::Guest::new(asked.guest).unwrap();
-        load(guest.bytes(), image, asked).map(|_| ())
+        load(guest.bytes(), image, asked, |_| {}).map(|_| ())
     }
 
     /// A segment that is named is the first that is refused: with those before it alone the image is accepted, and with it refused.

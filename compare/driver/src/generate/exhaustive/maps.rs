@@ -14,7 +14,9 @@ pub fn maps(area: Area) -> Box<dyn Iterator<Item = Question>> {
         Area::Elf => Box::new(of_area.chain(elf())),
         Area::Bzimage => Box::new(of_area.chain(bzimage())),
         Area::LineLoad => Box::new(of_area.chain(lines())),
-        Area::Note | Area::Line | Area::Words | Area::Page => Box::new(std::iter::empty()),
+        Area::Note | Area::Line | Area::Words | Area::Page | Area::Steps => {
+            Box::new(std::iter::empty())
+        }
     }
 }
 

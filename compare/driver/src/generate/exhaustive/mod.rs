@@ -1,11 +1,12 @@
 //! Every case of a kind near the worked examples: each byte with each value, each length, and the limits of each field crossed;
-//! program headers of each kind in each order; and small maps.
+//! program headers of each kind in each order; small maps; and every split of small loads into portions.
 
 mod image;
 mod line;
 mod maps;
 mod note;
 mod page;
+mod steps;
 mod words;
 
 use crate::generate::headers;
@@ -28,5 +29,6 @@ fn over_whole_slices(area: Area) -> Box<dyn Iterator<Item = Question>> {
         Area::LineLoad => Box::new(line::line_load().map(Question::LineLoad)),
         Area::Words => Box::new(words::words().map(Question::Words)),
         Area::Page => Box::new(page::page()),
+        Area::Steps => Box::new(steps::steps().map(Question::Steps)),
     }
 }
