@@ -1,5 +1,5 @@
 /*
- * The proved kernel loader for C and C++: ELF images with their PVH note, bzImages, and the kernel command line.
+ * The proved kernel loader for C and C++: ELF images with their PVH note, bzImages, arm64 Images, and the kernel command line.
  * A program includes this header and links the static library of the crates `capi` and `capi_..`, which `tools/make-library` makes; from an
  * archive that `tools/dist` makes by pkg-config, `cc program.c $(pkg-config --cflags --libs rekusoyen)`.
  *
@@ -221,6 +221,7 @@ static inline const char *rekusoyen_answer_sentence(uint32_t answer)
 #define REKUSOYEN_ELF_LOAD_OUT 6
 #define REKUSOYEN_ELF_NOTE_OUT 5
 #define REKUSOYEN_BZIMAGE_LOAD_OUT 2
+#define REKUSOYEN_ARM64_LOAD_OUT 2
 #define REKUSOYEN_SETUP_HEADER_SIZE 123
 
 /* The greatest length of an image and of guest memory. Texts have none. */
@@ -434,6 +435,73 @@ uint32_t rekusoyen_bzimage_step(
     const uint8_t *image, size_t image_len,
     uint64_t *state, size_t state_len,
     uint8_t *header, size_t header_len,
+    uint64_t budget,
+    uint64_t *out, size_t out_len);
+
+/*
+ * Loads an arm64 Image into guest memory: the whole file, header and all, to base + text offset.
+ *
+ *   guest  guest memory, its first byte at guest address 0
+ *   map    its ranges
+ *   image  the whole file, not compressed
+ *   base   where the file goes, but for the text offset that its header names; a multiple of 2 MiB
+ *   out    REKUSOYEN_ARM64_LOAD_OUT places: base + text offset; and that address + the image size, where the memory ends that the kernel
+ *          asks for. It may lie past guest memory, and below the file's last byte
+ *
+ * The header has 64 bytes: the text offset at 8, the image size at 16 and the flags at 24, 8 bytes each, and the magic number at 56, 4 bytes.
+ * Every number has its least byte first.
+ *
+ * Refusals:
+ *   NO_ROOM            out_len is not REKUSOYEN_ARM64_LOAD_OUT
+ *   SLICE_TOO_LONG     image_len or guest_len is above REKUSOYEN_LONGEST_SLICE
+ *   BAD_MAP            the map is not good
+ *   SHORT_IMAGE        image_len is below 64
+ *   BAD_IMAGE_MAGIC    the magic number is not 644D5241 hex
+ *   BIG_ENDIAN_IMAGE   bit 0 of the flags is 1; no other bit is looked at
+ *   NO_IMAGE_SIZE      the image size is 0
+ *   UNALIGNED_BASE     base is not a multiple of 2 MiB
+ *   IMAGE_START_WRAPS  base + text offset is 2^64 or more
+ *   NO_ROOM_FOR_IMAGE  the file's bytes have no room there
+ *   IMAGE_END_WRAPS    base + text offset + image size is 2^64 or more
+ *
+ * Leaves, accepted: in guest the file from base + text offset on; in out the two values. Memory behind the file, up to the image size, is not
+ * cleared. Leaves, refused: guest and out as they were.
+ */
+uint32_t rekusoyen_arm64_load(
+    uint8_t *guest, size_t guest_len,
+    const uint64_t *map, size_t map_len,
+    const uint8_t *image, size_t image_len,
+    uint64_t base,
+    uint64_t *out, size_t out_len);
+
+/*
+ * A load of an arm64 Image in steps. Its state is a list of REKUSOYEN_ARM64_STATE numbers. All else is as of rekusoyen_elf_begin and
+ * rekusoyen_elf_step.
+ */
+#define REKUSOYEN_ARM64_STATE 45
+#define REKUSOYEN_ARM64_STEP_OUT 5
+
+/*
+ * Begins a load. The base is that of rekusoyen_arm64_load.
+ *
+ * Refusals:
+ *   NO_ROOM  state_len is not REKUSOYEN_ARM64_STATE
+ */
+uint32_t rekusoyen_arm64_begin(uint64_t *state, size_t state_len, uint64_t base);
+
+/*
+ * A step of a load.
+ *
+ *   out  REKUSOYEN_ARM64_STEP_OUT places: the bytes copied; 1 where the load answers, and else 0; the answer's number, 0 where the load is
+ *        accepted or has not answered; and the two values of rekusoyen_arm64_load, 0 where it is not accepted
+ *
+ * Refusals of the call, which is then no step: NO_ROOM for state_len and out_len, then those of rekusoyen_elf_step.
+ */
+uint32_t rekusoyen_arm64_step(
+    uint8_t *guest, size_t guest_len,
+    const uint64_t *map, size_t map_len,
+    const uint8_t *image, size_t image_len,
+    uint64_t *state, size_t state_len,
     uint64_t budget,
     uint64_t *out, size_t out_len);
 

@@ -19,7 +19,7 @@ fn main() {
     if env::var_os("CARGO_FEATURE_PE").is_some() {
         eprintln!(
             "rekusoyen: the feature `pe` is not carried over from linux-loader: there is no loader for PE images (its module `loader::pe`), \
-             only those of the features `elf` and `bzimage`. Take `pe` out of this crate's features."
+             only those of the features `elf` and `bzimage`, and `loader::arm64` for arm64 Images, by rules of its own. Take `pe` out of this crate's features."
         );
         exit(1);
     }

@@ -6,7 +6,7 @@
 
 static void check_loads(void)
 {
-    const struct image elf = small_elf(), bzimage = bz_image(1, 16, "k", 1);
+    const struct image elf = small_elf(), bzimage = bz_image(1, 16, "k", 1), arm64 = arm64_image(0, 1);
     struct lent guest = lend_filled(32), numbers = lend_list(REKUSOYEN_ELF_LOAD_OUT);
     struct lent header = lend_filled(REKUSOYEN_SETUP_HEADER_SIZE);
     const size_t load_out = REKUSOYEN_ELF_LOAD_OUT, note_out = REKUSOYEN_ELF_NOTE_OUT;
@@ -34,6 +34,11 @@ static void check_loads(void)
     CHECK_ANSWER(
         "header", rekusoyen_bzimage_load(guest.bytes, 32, WHOLE(32), bzimage.bytes, bzimage.size, 0, 0, 0, out, 2, NULL, 0),
         REKUSOYEN_NO_ROOM);
+    CHECK_ANSWER("guest", rekusoyen_arm64_load(NULL, 0, NULL, 0, arm64.bytes, arm64.size, 0, out, 2), REKUSOYEN_NO_ROOM_FOR_IMAGE);
+    CHECK_ANSWER("image", rekusoyen_arm64_load(guest.bytes, 32, WHOLE(32), NULL, 0, 0, out, 2), REKUSOYEN_SHORT_IMAGE);
+    CHECK_ANSWER("map", rekusoyen_arm64_load(guest.bytes, 32, NULL, 0, arm64.bytes, arm64.size, 0, out, 2), REKUSOYEN_NO_ROOM_FOR_IMAGE);
+    CHECK_ANSWER("out", rekusoyen_arm64_load(guest.bytes, 32, WHOLE(32), arm64.bytes, arm64.size, 0, NULL, 0), REKUSOYEN_NO_ROOM);
+    CHECK_ANSWER("state", rekusoyen_arm64_begin(NULL, 0, 0), REKUSOYEN_NO_ROOM);
     CHECK_KEPT("refused", &guest);
     CHECK_KEPT("refused", &numbers);
     CHECK_KEPT("refused", &header);

@@ -71,3 +71,15 @@ struct image bz_image(uint8_t sectors, uint32_t start, const void *kernel, size_
     append(&image, kernel, size);
     return image;
 }
+
+struct image arm64_image(uint64_t text_offset, uint64_t image_size)
+{
+    struct image image = {{0}, ARM64_HEADER_SIZE};
+    for (size_t i = 0; i < image.size; i++)
+        image.bytes[i] = (uint8_t)(200 - i);
+    put_number(&image, TEXT_OFFSET, 8, text_offset);
+    put_number(&image, IMAGE_SIZE, 8, image_size);
+    put_number(&image, FLAGS, 8, 0xfffffffffffffffe);
+    memcpy(image.bytes + MAGIC, "ARM\x64", 4);
+    return image;
+}

@@ -49,4 +49,10 @@ enum { SETUP_SECTS = 0x1f1, HEADER_MAGIC = 0x202, VERSION = 0x206, LOADFLAGS = 0
 /* A bzImage of protocol 2.15, loaded high: a setup of so many sectors, all whose bytes hold something, and the kernel. */
 struct image bz_image(uint8_t sectors, uint32_t start, const void *kernel, size_t size);
 
+/* Fields of the header of an arm64 Image. */
+enum { TEXT_OFFSET = 8, IMAGE_SIZE = 16, FLAGS = 24, MAGIC = 56, ARM64_HEADER_SIZE = 64 };
+
+/* An arm64 Image that is a header alone, all of whose bytes hold something. */
+struct image arm64_image(uint64_t text_offset, uint64_t image_size);
+
 #endif

@@ -76,6 +76,13 @@ static void check_loads(
     CHECK_ANSWER(what, answer, bzimage);
     CHECK_KEPT(what, &values);
     CHECK_KEPT(what, &header);
+
+    /* neither image is one of arm64 */
+    struct lent ends = lend_list(REKUSOYEN_ARM64_LOAD_OUT);
+    answer = rekusoyen_arm64_load(
+        guest->bytes, guest->size, WHOLE(guest->size), image->bytes, image_len, 0, numbers_of(&ends), REKUSOYEN_ARM64_LOAD_OUT);
+    CHECK_ANSWER(what, answer, image_len > LONGEST ? REKUSOYEN_SLICE_TOO_LONG : REKUSOYEN_BAD_IMAGE_MAGIC);
+    CHECK_KEPT(what, &ends);
     check_edges(what, image);
 }
 

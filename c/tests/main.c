@@ -16,6 +16,7 @@ int main(int count, char **words)
     test_elf();
     test_notes();
     test_bzimage();
+    test_arm64();
     test_pages();
     test_line_calls();
     test_line_bytes();

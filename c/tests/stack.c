@@ -23,7 +23,8 @@ static uint8_t guest[64], setup_header[REKUSOYEN_SETUP_HEADER_SIZE];
 static uint64_t out[REKUSOYEN_ELF_LOAD_OUT], rows[REKUSOYEN_PAGE_READ_ROWS];
 static uint64_t state[REKUSOYEN_ELF_STATE], step_out[REKUSOYEN_ELF_STEP_OUT];
 static uint8_t page[REKUSOYEN_PAGE_SIZE];
-static struct image elf, bzimage;
+static struct image elf, bzimage, arm64;
+static uint64_t arm64_state[REKUSOYEN_ARM64_STATE];
 static const uint8_t text[] = "text";
 static const size_t ends[] = {2, 4};
 static uint8_t quotes[REKUSOYEN_LINE_LIMIT];
@@ -36,6 +37,13 @@ static const uint64_t ranges[] = {
 };
 
 #define RANGES (sizeof ranges / sizeof ranges[0])
+
+/* The same for a file of 64 bytes, which goes to the last. */
+static uint8_t arm64_guest[128];
+static const uint64_t arm64_ranges[RANGES] = {
+    0,  1, 2,  1, 4,  1, 6,  1, 8,  1, 10, 1, 12, 1, 14, 1,
+    16, 1, 18, 1, 20, 1, 22, 1, 24, 1, 26, 1, 28, 1, 64, 64,
+};
 
 static uint32_t elf_load(void)
 {
@@ -63,6 +71,22 @@ static uint32_t bzimage_load(void)
     return rekusoyen_bzimage_load(
         guest, sizeof guest, ranges, RANGES, bzimage.bytes, bzimage.size, 0, 0, 0,
         out, REKUSOYEN_BZIMAGE_LOAD_OUT, setup_header, sizeof setup_header);
+}
+
+static uint32_t arm64_load(void)
+{
+    return rekusoyen_arm64_load(
+        arm64_guest, sizeof arm64_guest, arm64_ranges, RANGES, arm64.bytes, arm64.size, 0, out, REKUSOYEN_ARM64_LOAD_OUT);
+}
+
+static uint32_t arm64_step(void)
+{
+    const uint32_t answer = rekusoyen_arm64_begin(arm64_state, REKUSOYEN_ARM64_STATE, 0);
+    if (answer != REKUSOYEN_ACCEPTED)
+        return answer;
+    return rekusoyen_arm64_step(
+        arm64_guest, sizeof arm64_guest, arm64_ranges, RANGES, arm64.bytes, arm64.size, arm64_state, REKUSOYEN_ARM64_STATE, 8, step_out,
+        REKUSOYEN_ARM64_STEP_OUT);
 }
 
 static uint32_t page_build(void)
@@ -143,6 +167,8 @@ static const struct {
     {"rekusoyen_elf_step", elf_step, REKUSOYEN_STEP_STACK_SIZE},
     {"rekusoyen_elf_note", elf_note, REKUSOYEN_LOAD_STACK_SIZE},
     {"rekusoyen_bzimage_load", bzimage_load, REKUSOYEN_LOAD_STACK_SIZE},
+    {"rekusoyen_arm64_load", arm64_load, REKUSOYEN_LOAD_STACK_SIZE},
+    {"rekusoyen_arm64_step", arm64_step, REKUSOYEN_STEP_STACK_SIZE},
     {"rekusoyen_page_build", page_build, REKUSOYEN_LOAD_STACK_SIZE},
     {"rekusoyen_page_read", page_read, REKUSOYEN_LOAD_STACK_SIZE},
     {"rekusoyen_line_new", line_new, REKUSOYEN_LINE_STACK_SIZE},
@@ -194,6 +220,7 @@ void test_stack(void)
     elf = small_elf();
     memset(quotes, '"', sizeof quotes);
     bzimage = bz_image(1, 16, "k", 1);
+    arm64 = arm64_image(64, 64);
     for (size_t i = 0; i < REKUSOYEN_PAGE_READ_ROWS; i++)
         rows[i] = i % 3 == 0 ? i : 1;
     const long least = sysconf(_SC_THREAD_STACK_MIN);

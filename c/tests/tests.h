@@ -6,6 +6,7 @@ void test_answers(void);
 void test_elf(void);
 void test_notes(void);
 void test_bzimage(void);
+void test_arm64(void);
 void test_pages(void);
 void test_line_calls(void);
 void test_line_bytes(void);

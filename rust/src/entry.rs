@@ -60,6 +60,15 @@ pub const BZIMAGE_STATE: usize = 45;
 /// How many places the list of a step's values of a bzImage load has.
 pub const BZIMAGE_STEP_OUT: usize = 5;
 
+/// How many places the list of an arm64 load's values has.
+pub const ARM64_LOAD_OUT: usize = 2;
+
+/// How many numbers hold the state of an arm64 load in steps.
+pub const ARM64_STATE: usize = 45;
+
+/// How many places the list of a step's values of an arm64 load has.
+pub const ARM64_STEP_OUT: usize = 5;
+
 /// How many ranges a map of guest memory has at most.
 pub const MAP_RANGES: usize = 16;
 
@@ -189,6 +198,50 @@ extern "C" {
         state_len: usize,
         header: *mut u8,
         header_len: usize,
+        budget: u64,
+        out: *mut u64,
+        out_len: usize,
+    ) -> u32;
+
+    /// Loads an arm64 Image. `out` has 2 places: where the file begins, and where the memory ends that the kernel asks for.
+    ///
+    /// # Safety
+    ///
+    /// As of [`rekusoyen_elf_load`].
+    pub fn rekusoyen_arm64_load(
+        guest: *mut u8,
+        guest_len: usize,
+        map: *const u64,
+        map_len: usize,
+        image: *const u8,
+        image_len: usize,
+        base: u64,
+        out: *mut u64,
+        out_len: usize,
+    ) -> u32;
+
+    /// Begins an arm64 load in steps: writes its state, [`ARM64_STATE`] numbers.
+    ///
+    /// # Safety
+    ///
+    /// As of [`rekusoyen_elf_load`].
+    pub fn rekusoyen_arm64_begin(state: *mut u64, state_len: usize, base: u64) -> u32;
+
+    /// A step of an arm64 load, which copies at most `budget` bytes. `out` has [`ARM64_STEP_OUT`] places: the bytes copied, 1 where the load
+    /// answers, the answer's number, and the values of a load.
+    ///
+    /// # Safety
+    ///
+    /// As of [`rekusoyen_elf_load`].
+    pub fn rekusoyen_arm64_step(
+        guest: *mut u8,
+        guest_len: usize,
+        map: *const u64,
+        map_len: usize,
+        image: *const u8,
+        image_len: usize,
+        state: *mut u64,
+        state_len: usize,
         budget: u64,
         out: *mut u64,
         out_len: usize,

@@ -294,6 +294,72 @@ pub(crate) fn bzimage_step(
     answered(number).map(|()| out)
 }
 
+/// Loads an arm64 Image: where the file begins, and where the kernel's memory ends.
+pub(crate) fn arm64_load(
+    guest: Guest,
+    image: &[u8],
+    base: u64,
+) -> Result<[u64; entry::ARM64_LOAD_OUT], Refusal> {
+    let mut out = [0; entry::ARM64_LOAD_OUT];
+    let map = guest.map();
+    // SAFETY: the guest's bytes can be read and written and nobody else has them, by `Guest`; the others are slices of Rust's, the
+    // output borrowed by this call alone. The function keeps none of the pointers.
+    let number = unsafe {
+        entry::rekusoyen_arm64_load(
+            guest.start,
+            guest.length,
+            map.as_ptr(),
+            map.len(),
+            image.as_ptr(),
+            image.len(),
+            base,
+            out.as_mut_ptr(),
+            out.len(),
+        )
+    };
+    answered(number).map(|()| out)
+}
+
+/// The state of an arm64 load in steps that is not begun; the base is the offset, and 0 where none is given.
+pub(crate) fn arm64_begin(options: Options) -> [u64; entry::ARM64_STATE] {
+    let mut state = [0; entry::ARM64_STATE];
+    // SAFETY: the state is an array of Rust's, borrowed by this call alone. The function does not keep its pointer.
+    let refused = unsafe {
+        entry::rekusoyen_arm64_begin(state.as_mut_ptr(), state.len(), number(options.offset))
+    };
+    debug_assert_eq!(refused, 0, "a state of the right size is refused");
+    state
+}
+
+/// A step of an arm64 load: the bytes copied, 1 where the load answers, the answer's number, and the values of a load.
+pub(crate) fn arm64_step(
+    guest: Guest,
+    image: &[u8],
+    state: &mut [u64; entry::ARM64_STATE],
+    budget: u64,
+) -> Result<[u64; entry::ARM64_STEP_OUT], Refusal> {
+    let mut out = [0; entry::ARM64_STEP_OUT];
+    let map = guest.map();
+    // SAFETY: the guest's bytes can be read and written and nobody else has them, by `Guest`; the others are slices of Rust's, state and output
+    // borrowed by this call alone. The function keeps none of the pointers.
+    let number = unsafe {
+        entry::rekusoyen_arm64_step(
+            guest.start,
+            guest.length,
+            map.as_ptr(),
+            map.len(),
+            image.as_ptr(),
+            image.len(),
+            state.as_mut_ptr(),
+            state.len(),
+            budget,
+            out.as_mut_ptr(),
+            out.len(),
+        )
+    };
+    answered(number).map(|()| out)
+}
+
 /// Writes a line and its zero into guest memory.
 pub(crate) fn line_load(guest: Guest, address: GuestAddress, line: &[u8]) -> Result<(), Refusal> {
     let map = guest.map();

@@ -29,7 +29,7 @@
 //! # Ok::<(), Box<dyn std::error::Error>>(())
 //! ```
 //!
-//! Guest memory may have holes: a [`Map`] names the ranges in which there is memory, and `load_into_map` of both loaders and
+//! Guest memory may have holes: a [`Map`] names the ranges in which there is memory, and `load_into_map` of each loader and
 //! [`load_cmdline_into_map`](loader::load_cmdline_into_map) take one. Without a map the slice has no hole.
 //! [`boot_page`] builds and reads the zero page of a bzImage.
 //!

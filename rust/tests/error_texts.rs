@@ -112,6 +112,8 @@ fn loader_text(error: &loader::Error) -> String {
         loader::Error::CommandLineOverflow => "command line overflowed guest memory".into(),
         loader::Error::InvalidKernelStartAddress => "invalid kernel start address".into(),
         loader::Error::MemoryOverflow => "memory to load kernel image is not enough".into(),
+        // not linux-loader's: its own loader of these images has another variant, where it is built with it
+        loader::Error::Arm64(error) => format!("failed to load arm64 kernel image: {error}"),
     };
     format!("Kernel Loader: {text}")
 }

@@ -5,12 +5,12 @@ mod images;
 use std::fs::File;
 use std::io::{self, Cursor, Read, Seek, SeekFrom, Write};
 
-use images::{fresh, fresh_with, pvh_note, BzImageFile, ElfImage, LOADABLE, NOTE};
+use images::{arm64_image, fresh, fresh_with, pvh_note, BzImageFile, ElfImage, LOADABLE, NOTE};
 use rekusoyen::cmdline;
 use rekusoyen::loader::bootparam::setup_header;
 use rekusoyen::loader::{
-    self, bzimage, elf, load_cmdline, BzImage, Cmdline, Elf, KernelLoader, KernelLoaderResult,
-    PvhBootCapability,
+    self, arm64, bzimage, elf, load_cmdline, BzImage, Cmdline, Elf, KernelLoader,
+    KernelLoaderResult, PvhBootCapability,
 };
 use vm_memory::bitmap::BitmapSlice;
 use vm_memory::{
@@ -260,4 +260,28 @@ fn only_the_region_at_0_is_room() {
     let elf = Elf::load(&memory, None, &mut Cursor::new(elf_image()), None);
     assert_eq!(elf.map(|kernel| kernel.kernel_end), Ok(0x1003));
     assert_eq!(content(&memory), fresh_with(0x2003, &[(0x1000, b"elf")]));
+}
+
+/// The offset is the base, 0 where none is given; the start of high memory is not looked at.
+#[test]
+fn an_arm64_image_starts_by_the_same_trait() {
+    let image = arm64_image(16, 200, b"abc");
+    let load = |memory: &GuestMemoryMmap, base: Option<u64>| {
+        let high = Some(GuestAddress(u64::MAX));
+        arm64::Image::load(
+            memory,
+            base.map(GuestAddress),
+            &mut Cursor::new(&image),
+            high,
+        )
+    };
+    let memory = memory(&[(0, ROOM)]);
+    let kernel = load(&memory, None).unwrap();
+    assert_eq!(kernel.kernel_load, GuestAddress(16));
+    assert_eq!(kernel.kernel_end, 216);
+    assert_eq!(content(&memory), fresh_with(ROOM, &[(16, &image)]));
+    let far = load(&memory, Some(2 << 20));
+    assert_eq!(far, Err(arm64::Error::NoRoomForImage.into()));
+    let unaligned = load(&memory, Some(16));
+    assert_eq!(unaligned, Err(arm64::Error::UnalignedBase.into()));
 }

@@ -1,10 +1,12 @@
 //! Asks a program that has the second program's functions. It stands over the second program itself and over the copy with planted
 //! mistakes: the module above names which as `program`.
 
-use super::program::{bzimage, elf, line::Line, loading, note, page, steps, words, Refusal, Rules};
+use super::program::{
+    arm64, bzimage, elf, line::Line, loading, note, page, steps, words, Refusal, Rules,
+};
 use crate::answer::{
-    Answer, BzimageLoaded, CallAnswer, ElfLoaded, Note, NoteWalked, PageFound, Pvh, StepTold,
-    StepsTold, Told,
+    Answer, Arm64Loaded, BzimageLoaded, CallAnswer, ElfLoaded, Note, NoteWalked, PageFound, Pvh,
+    StepTold, StepsTold, Told,
 };
 use crate::lists::Lists;
 use crate::question::{Call, Load, Loader, PageBuild, PageRead, Question, Steps, Walk, Words};
@@ -42,7 +44,11 @@ pub fn answer_by(question: &Question, rules: second::Rules) -> Answer {
             Loader::Bzimage => answer_steps(asked, |loaded| {
                 Told::Bzimage(loaded.map(bzimage_loaded).map_err(Refusal::number))
             }),
+            Loader::Arm64 => answer_steps(asked, |loaded| {
+                Told::Arm64(loaded.map(arm64_loaded).map_err(Refusal::number))
+            }),
         }),
+        Question::Arm64(load) => answer_arm64(load, &map),
     }
 }
 
@@ -151,6 +157,18 @@ fn bzimage_loaded(loaded: bzimage::Loaded) -> BzimageLoaded {
         end: loaded.end,
         header: loaded.header.to_vec(),
     }
+}
+
+fn answer_arm64(load: &Load, map: &[u64]) -> Answer {
+    let mut guest = load.guest.clone();
+    let base = load.options.offset.unwrap_or(0);
+    let outcome = arm64::load(&load.image, &mut guest, map, base);
+    let outcome = outcome.map_err(Refusal::number).map(arm64_loaded);
+    Answer::Arm64 { outcome, guest }
+}
+
+fn arm64_loaded(loaded: arm64::Loaded) -> Arm64Loaded {
+    (loaded.load, loaded.end)
 }
 
 /// The line that the calls make.

@@ -41,6 +41,9 @@ pub struct BzimageLoaded {
     pub header: Vec<u8>,
 }
 
+/// The address of an arm64 file, and the end of its kernel's memory.
+pub type Arm64Loaded = (u64, u64);
+
 /// What stands in a page.
 #[derive(Clone, Debug, PartialEq, Eq)]
 pub struct PageFound {
@@ -91,6 +94,10 @@ pub enum Answer {
     },
     PageRead(Result<PageFound, u8>),
     Steps(StepsTold),
+    Arm64 {
+        outcome: Result<Arm64Loaded, u8>,
+        guest: Vec<u8>,
+    },
 }
 
 /// What the calls of a load in steps were told, and the guest afterwards.
@@ -113,6 +120,7 @@ pub enum StepTold {
 pub enum Told {
     Elf(Result<ElfLoaded, u8>),
     Bzimage(Result<BzimageLoaded, u8>),
+    Arm64(Result<Arm64Loaded, u8>),
 }
 
 /// What reading the words of a line left.
@@ -180,6 +188,10 @@ impl Answer {
                 }
                 put_guest(&mut line, before, &told.guest);
             }
+            Answer::Arm64 { outcome, guest } => {
+                put_arm64(&mut line, outcome);
+                put_guest(&mut line, before, guest);
+            }
         }
         line
     }
@@ -202,6 +214,7 @@ impl Answer {
             Answer::PageBuild { outcome, .. } => numbers.extend(outcome.err()),
             Answer::PageRead(outcome) => numbers.extend(outcome.as_ref().err()),
             Answer::Steps(told) => numbers.extend(told.calls.iter().filter_map(step_refusal)),
+            Answer::Arm64 { outcome, .. } => numbers.extend(outcome.err()),
         }
         numbers
     }
@@ -210,9 +223,10 @@ impl Answer {
 fn step_refusal(call: &StepTold) -> Option<u8> {
     match call {
         StepTold::Refused(number)
-        | StepTold::Step(_, Some(Told::Elf(Err(number)) | Told::Bzimage(Err(number)))) => {
-            Some(*number)
-        }
+        | StepTold::Step(
+            _,
+            Some(Told::Elf(Err(number)) | Told::Bzimage(Err(number)) | Told::Arm64(Err(number))),
+        ) => Some(*number),
         StepTold::Step(..) => None,
     }
 }
@@ -247,6 +261,13 @@ fn put_bzimage(line: &mut String, outcome: &Result<BzimageLoaded, u8>) {
     };
 }
 
+fn put_arm64(line: &mut String, outcome: &Result<Arm64Loaded, u8>) {
+    *line += &match outcome {
+        Ok((load, end)) => format!("arm64 ok {load} {end}"),
+        Err(number) => format!("arm64 refused {number}"),
+    };
+}
+
 fn put_step(line: &mut String, call: &StepTold) {
     match call {
         StepTold::Refused(number) => *line += &format!("refused {number}"),
@@ -261,6 +282,10 @@ fn put_step(line: &mut String, call: &StepTold) {
                 Some(Told::Bzimage(outcome)) => {
                     *line += " ";
                     put_bzimage(line, outcome);
+                }
+                Some(Told::Arm64(outcome)) => {
+                    *line += " ";
+                    put_arm64(line, outcome);
                 }
             }
         }

@@ -1,6 +1,6 @@
 //! Cases at the edges of the rules, each with what is to be answered: more of them than the worked examples, and as easy to read.
 
-use crate::examples::{put, pvh_note, small_bzimage, small_elf};
+use crate::examples::{put, pvh_note, small_arm64, small_bzimage, small_elf};
 use crate::map_cases;
 use crate::question::{Call, Load, PageBuild, PageRead, Question, Walk, Words};
 use crate::step_cases;
@@ -26,6 +26,7 @@ pub fn all() -> Vec<Case> {
         words(),
         pages(),
         step_cases::all(),
+        arm64(),
     ]
     .concat()
 }
@@ -703,6 +704,70 @@ fn pages() -> Vec<Case> {
         ),
         read(4096, 0x1e8, 129, "page refused 74"),
         read(4097, 0x1e8, 129, "page refused 73"),
+    ]
+}
+
+/// The small image with its base and some bytes of its header at other values.
+fn arm64() -> Vec<Case> {
+    let with = |base: u64, edits: &[(usize, &[u8])], told| {
+        let mut load = into_sevens(small_arm64(), 80);
+        load.options.offset = Some(base);
+        for (place, bytes) in edits {
+            put(&mut load.image, *place, bytes);
+        }
+        (Question::Arm64(load), told)
+    };
+    let cut = |length: usize, told| {
+        let mut load = into_sevens(small_arm64(), 80);
+        load.image.truncate(length);
+        (Question::Arm64(load), told)
+    };
+    let (mib2, last) = (2u64 << 20, (2u64 << 20).wrapping_neg());
+    let top = [0xff; 8];
+    vec![
+        with(0, &[], "arm64 ok 8 108, 8 to 74 changed"),
+        // a header alone, and one byte less
+        cut(64, "arm64 ok 8 108, 8 to 71 changed"),
+        cut(63, "arm64 refused 81, nothing changed"),
+        cut(0, "arm64 refused 81, nothing changed"),
+        with(0, &[(56, b"a")], "arm64 refused 82, nothing changed"),
+        with(0, &[(24, &[11])], "arm64 refused 83, nothing changed"),
+        with(0, &[(16, &[0])], "arm64 refused 84, nothing changed"),
+        // the base alone is a multiple of 2 MiB
+        with(1, &[], "arm64 refused 85, nothing changed"),
+        with(mib2 - 8, &[], "arm64 refused 85, nothing changed"),
+        with(mib2, &[], "arm64 refused 87, nothing changed"),
+        // base and text offset at 2^64, and one below
+        with(
+            last,
+            &[(8, &mib2.to_le_bytes())],
+            "arm64 refused 86, nothing changed",
+        ),
+        with(
+            last,
+            &[(8, &(mib2 - 1).to_le_bytes())],
+            "arm64 refused 87, nothing changed",
+        ),
+        // the last address that has room, and the one after it
+        with(0, &[(8, &[13])], "arm64 ok 13 113, 13 to 79 changed"),
+        with(0, &[(8, &[14])], "arm64 refused 87, nothing changed"),
+        // an image size past guest memory, at the end of 2^64, and one more
+        with(
+            0,
+            &[(8, &[13]), (16, &(u64::MAX - 13).to_le_bytes())],
+            "arm64 ok 13 18446744073709551615, 13 to 79 changed",
+        ),
+        with(
+            0,
+            &[(8, &[13]), (16, &(u64::MAX - 12).to_le_bytes())],
+            "arm64 refused 88, nothing changed",
+        ),
+        // room is asked before the end
+        with(
+            0,
+            &[(8, &[14]), (16, &top)],
+            "arm64 refused 87, nothing changed",
+        ),
     ]
 }
 

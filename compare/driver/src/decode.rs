@@ -99,6 +99,8 @@ pub fn question(body: &[u8]) -> Parsed<Question> {
         }
         14 => Question::Steps(steps(Loader::Elf, rest)?),
         15 => Question::Steps(steps(Loader::Bzimage, rest)?),
+        16 => Question::Arm64(load(map(&mut rest)?, rest)?),
+        17 => Question::Steps(steps(Loader::Arm64, rest)?),
         _ => return Err("unknown kind"),
     })
 }
@@ -316,6 +318,10 @@ mod tests {
                 let mut question = generate::random(area, &mut rng);
                 if seed % 2 == 1 {
                     question = generate::over_map(question, &mut rng);
+                } else if area == Area::Arm64 {
+                    // its form always has a map
+                    let whole = question.numbers();
+                    question = question.over(Some(whole));
                 }
                 let bytes = framed(&question);
                 let read = next(&mut &bytes[..]).unwrap();

@@ -18,8 +18,8 @@ pub fn asks_crate(question: &Question) -> bool {
         Question::Bzimage(load) => has_regions(question) && !kernel_is_empty(load),
         Question::Line(calls) => !has_high_bytes(calls),
         Question::LineLoad(load) => has_regions(question) && !has_high_bytes(&load.calls),
-        // the crate does not read a line back
-        Question::Words(_) => false,
+        // the crate does not read a line back, and its own loader of arm64 Images has other rules
+        Question::Words(_) | Question::Arm64(_) => false,
         Question::PageBuild(_) | Question::PageRead(_) => !page_is_refused(question),
         // the crate has no load in steps
         Question::Steps(_) => false,

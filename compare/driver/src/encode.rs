@@ -11,7 +11,7 @@ pub const MOST_PLACES: u32 = 8192;
 /// Whether the form takes the question.
 pub fn fits(question: &Question) -> bool {
     let image = match question {
-        Question::Elf(load) | Question::Bzimage(load) => &load.image,
+        Question::Elf(load) | Question::Bzimage(load) | Question::Arm64(load) => &load.image,
         Question::Note(walk) => &walk.image,
         Question::Line(_) | Question::LineLoad(_) => return question.guest().len() <= LARGEST,
         Question::Words(words) => return words.places.iter().all(|count| *count <= MOST_PLACES),
@@ -70,6 +70,18 @@ fn body(question: &Question) -> Vec<u8> {
                 out.extend(number.to_le_bytes());
             }
         }
+        // always over a map: where none is given it is that of the whole slice
+        Question::Arm64(load) => {
+            let map = Some(question.numbers());
+            put_load(
+                &mut out,
+                [16; 2],
+                &Load {
+                    map,
+                    ..load.clone()
+                },
+            );
+        }
         Question::PageRead(read) => {
             out.push(11);
             out.extend(read.length.to_le_bytes());
@@ -107,6 +119,7 @@ fn put_steps(out: &mut Vec<u8>, steps: &Steps) {
     let kind = match steps.loader {
         Loader::Elf => 14,
         Loader::Bzimage => 15,
+        Loader::Arm64 => 17,
     };
     put_kind_and_map(out, kind, &steps.map);
     put_lent(out, steps.options, &steps.bytes, &steps.guest);

@@ -218,6 +218,20 @@ pub fn all() -> Vec<Question> {
     ]
 }
 
+/// An arm64 Image of a header and three bytes, all of whose other bytes hold something, for address 8 of 80 bytes.
+pub fn small_arm64() -> Load {
+    let mut image: Vec<u8> = (101..168).collect();
+    put(&mut image, 8, &8u64.to_le_bytes());
+    put(&mut image, 16, &100u64.to_le_bytes());
+    put(&mut image, 24, &10u64.to_le_bytes());
+    put(&mut image, 56, b"ARM\x64");
+    Load {
+        image,
+        guest: guest(80),
+        ..Load::default()
+    }
+}
+
 #[cfg(test)]
 mod tests {
     use super::*;

@@ -16,6 +16,9 @@ const SMALL_GUEST: usize = LARGEST;
 /// Where a small image goes in small guest memory: its own address may be 1 MiB, where that ends.
 const LOW: u64 = 0x1000;
 
+/// A base of an arm64 Image, 2 MiB, beside 0.
+const ARM64_BASE: u64 = 2 << 20;
+
 /// Loads each file as what it is; answers whether all agreed.
 pub fn images(files: &[String], backends: &[&Maker]) -> Result<bool> {
     let mut asked: Vec<_> = backends.iter().map(|make| make()).collect();
@@ -44,8 +47,8 @@ pub fn images(files: &[String], backends: &[&Maker]) -> Result<bool> {
     Ok(all_agree)
 }
 
-/// The loads of an image, as an ELF one where it has that magic and as a bzImage elsewhere: at its own address, and where it is small
-/// once more in guest memory that the probe takes.
+/// The loads of an image, as an ELF or arm64 one where it has that magic and as a bzImage elsewhere: at its own address, an arm64 one behind two bases,
+/// and where it is small once more in guest memory that the probe takes.
 fn questions(image: &[u8]) -> Vec<Question> {
     let load = |offset, guest| Load {
         options: Options {
@@ -58,6 +61,12 @@ fn questions(image: &[u8]) -> Vec<Question> {
     };
     if image.starts_with(b"\x7fELF") {
         return vec![Question::Elf(load(None, GUEST))];
+    }
+    if image.get(56..60) == Some(b"ARM\x64") {
+        let bases = [None, Some(ARM64_BASE)];
+        return bases
+            .map(|base| Question::Arm64(load(base, GUEST)))
+            .to_vec();
     }
     let mut questions = vec![Question::Bzimage(load(None, GUEST))];
     if image.len() <= SMALL_GUEST / 2 {

@@ -35,6 +35,8 @@ pub fn all() -> Vec<(Vec<u8>, &'static str)> {
         (page_build(4096, 7), rows),
         (page_build(65_537, 0), rows),
         (page_build(4096, 8 * 401), rows),
+        (vec![16], map),
+        (vec![16, 0, 0, 0], lengths),
         (vec![11; 9], "malformed: no page"),
         (vec![11, 1, 0, 1, 0, 0, 0, 0, 0, 0], "malformed: no page"),
         (vec![14], map),

@@ -14,6 +14,7 @@ pub fn parts(question: &Question) -> Vec<Part> {
             segments.map(|segment| segment.to).collect()
         }
         Question::Bzimage(load) => kernel(load).into_iter().collect(),
+        Question::Arm64(load) => file(load).into_iter().collect(),
         Question::LineLoad(load) => written_line(load).into_iter().collect(),
         Question::Note(_)
         | Question::Line(_)
@@ -64,6 +65,13 @@ fn kernel(load: &Load) -> Option<Part> {
 pub fn kernel_address(load: &Load) -> Option<u64> {
     let start = load.image.get(0x214..0x218)?;
     Some(load.options.offset.unwrap_or(u32_at(start, 0).into()))
+}
+
+/// The file of an arm64 Image.
+fn file(load: &Load) -> Option<Part> {
+    let text_offset = u64_at(load.image.get(8..16)?, 0);
+    let base = load.options.offset.unwrap_or(0);
+    Some((base.wrapping_add(text_offset), load.image.len() as u64))
 }
 
 /// The line with its zero, if it can be written.

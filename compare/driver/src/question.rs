@@ -73,6 +73,8 @@ impl PageRead {
 pub enum Loader {
     Elf,
     Bzimage,
+    /// The base is the offset, and 0 where none is given.
+    Arm64,
 }
 
 /// A load in steps. Each call lends what it says of the bytes and of the guest.
@@ -132,6 +134,8 @@ pub enum Question {
     PageBuild(PageBuild),
     PageRead(PageRead),
     Steps(Steps),
+    /// The base is the offset, and 0 where none is given.
+    Arm64(Load),
 }
 
 /// A line to read the words of, and how many places each of the three lists has.
@@ -176,7 +180,7 @@ pub enum Call {
 }
 
 /// The areas that cases are counted by, one for each kind of question; building a page and reading one are one area, and loads in steps are
-/// one for both loaders.
+/// one for all loaders.
 #[derive(Clone, Copy, Debug, PartialEq, Eq)]
 pub enum Area {
     Elf,
@@ -187,11 +191,12 @@ pub enum Area {
     Words,
     Page,
     Steps,
+    Arm64,
 }
 
 impl Area {
     /// How many there are.
-    pub const COUNT: usize = 8;
+    pub const COUNT: usize = 9;
 
     pub const ALL: [Area; Area::COUNT] = [
         Area::Elf,
@@ -202,6 +207,7 @@ impl Area {
         Area::Words,
         Area::Page,
         Area::Steps,
+        Area::Arm64,
     ];
 
     pub fn name(self) -> &'static str {
@@ -214,6 +220,7 @@ impl Area {
             Area::Words => "words",
             Area::Page => "page",
             Area::Steps => "steps",
+            Area::Arm64 => "arm64",
         }
     }
 
@@ -233,13 +240,14 @@ impl Question {
             Question::Words(_) => Area::Words,
             Question::PageBuild(_) | Question::PageRead(_) => Area::Page,
             Question::Steps(_) => Area::Steps,
+            Question::Arm64(_) => Area::Arm64,
         }
     }
 
     /// The guest's first content, or the page's; a question without a guest has an empty one.
     pub fn guest(&self) -> &[u8] {
         match self {
-            Question::Elf(load) | Question::Bzimage(load) => &load.guest,
+            Question::Elf(load) | Question::Bzimage(load) | Question::Arm64(load) => &load.guest,
             Question::LineLoad(load) => &load.guest,
             Question::PageBuild(build) => &build.page,
             Question::Steps(steps) => &steps.guest,
@@ -252,7 +260,9 @@ impl Question {
     /// The guest's map, where one is given; calls of a load in steps have each their own.
     pub fn map(&self) -> Option<&[u64]> {
         match self {
-            Question::Elf(load) | Question::Bzimage(load) => load.map.as_deref(),
+            Question::Elf(load) | Question::Bzimage(load) | Question::Arm64(load) => {
+                load.map.as_deref()
+            }
             Question::LineLoad(load) => load.map.as_deref(),
             Question::Note(_)
             | Question::Line(_)
@@ -272,7 +282,7 @@ impl Question {
     /// The same question over a map; one without a guest stays as it is, and so does a load in steps.
     pub fn over(mut self, map: Map) -> Question {
         match &mut self {
-            Question::Elf(load) | Question::Bzimage(load) => load.map = map,
+            Question::Elf(load) | Question::Bzimage(load) | Question::Arm64(load) => load.map = map,
             Question::LineLoad(load) => load.map = map,
             Question::Note(_)
             | Question::Line(_)

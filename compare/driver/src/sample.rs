@@ -31,13 +31,15 @@ const BUDGET: [(Area, usize); Area::COUNT] = [
     (Area::Words, 30_000),
     (Area::Page, 60_000),
     (Area::Steps, 30_000),
+    (Area::Arm64, 24_000),
 ];
 
 /// And those of an area over maps, which come behind all others.
-const BUDGET_OVER_MAPS: [(Area, usize); 3] = [
+const BUDGET_OVER_MAPS: [(Area, usize); 4] = [
     (Area::Elf, 26_000),
     (Area::Bzimage, 18_000),
     (Area::LineLoad, 18_000),
+    (Area::Arm64, 10_000),
 ];
 
 /// A question longer than this would take the room of many others.
@@ -218,6 +220,7 @@ mod tests {
             .chain(61..=64)
             .chain(71..=75)
             .chain([77])
+            .chain(81..=88)
             .collect();
         assert_eq!(numbers, wanted);
         let bytes: usize = questions

@@ -7,6 +7,7 @@ pub fn show(question: &Question) -> String {
     match question {
         Question::Elf(load) => format!("an ELF load{}", show_load(load)),
         Question::Bzimage(load) => format!("a bzImage load{}", show_load(load)),
+        Question::Arm64(load) => format!("an arm64 load{}", show_load(load)),
         Question::Note(walk) => format!(
             "a note walk from {} over {} bytes\n{}",
             walk.place,

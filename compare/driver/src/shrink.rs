@@ -29,6 +29,7 @@ fn smaller(question: &Question) -> Vec<Question> {
     match question {
         Question::Elf(load) => smaller_loads(load).map(Question::Elf).collect(),
         Question::Bzimage(load) => smaller_loads(load).map(Question::Bzimage).collect(),
+        Question::Arm64(load) => smaller_loads(load).map(Question::Arm64).collect(),
         Question::Note(walk) => {
             let with = |place, size, image: &[u8]| {
                 let mut smaller = walk.clone();

@@ -1,12 +1,12 @@
 //! Cases of loads in steps, each with what is to be answered.
 
 use crate::cases::Case;
-use crate::examples::{small_bzimage, small_elf};
+use crate::examples::{small_arm64, small_bzimage, small_elf};
 use crate::question::{Load, Loader, Question, StepCall, Steps};
 use second::map::whole;
 
 pub fn all() -> Vec<Case> {
-    [elf(), refused_calls(), bzimage()].concat()
+    [elf(), refused_calls(), bzimage(), arm64()].concat()
 }
 
 /// The calls of a load into guest memory in which each byte is 7 before.
@@ -127,6 +127,25 @@ fn bzimage() -> Vec<Case> {
         (
             steps(Loader::Bzimage, small_elf(), 12, &[all_lent(1)]),
             "steps | 0 bzimage refused 21, nothing changed",
+        ),
+    ]
+}
+
+/// The small arm64 Image: 67 bytes for 8, in a guest of 80.
+fn arm64() -> Vec<Case> {
+    let case = |budgets: &[u64], told| {
+        let calls: Vec<StepCall> = budgets.iter().copied().map(all_lent).collect();
+        (steps(Loader::Arm64, small_arm64(), 80, &calls), told)
+    };
+    vec![
+        case(&[2], "steps | 2, 8 to 9 changed"),
+        case(
+            &[64, 0, 4, 1],
+            "steps | 64 | refused 63 | 3 arm64 ok 8 108 | 0 arm64 ok 8 108, 8 to 74 changed",
+        ),
+        (
+            steps(Loader::Arm64, small_elf(), 80, &[all_lent(1)]),
+            "steps | 0 arm64 refused 82, nothing changed",
         ),
     ]
 }

@@ -12,7 +12,9 @@ fn compare(words: &[&str]) -> Output {
 fn run_against(program: &str) -> Output {
     let few = ["--elf", "300", "--note", "300", "--bzimage", "30"];
     let more = ["--line", "300", "--load", "300"];
-    let added = ["--words", "300", "--page", "300", "--steps", "300"];
+    let added = [
+        "--words", "300", "--page", "300", "--steps", "300", "--arm64", "300",
+    ];
     let alone = ["--exhaustive", "0"];
     let words = [
         &["run", "--probe", program][..],
@@ -33,9 +35,9 @@ fn a_program_that_answers_right_has_no_difference() {
     assert!(output.status.success(), "{said}");
     let last = said.lines().last().unwrap();
     let counts =
-        "elf 300, note 300, bzimage 30, line 300, load 300, words 300, page 300, steps 300";
+        "elf 300, note 300, bzimage 30, line 300, load 300, words 300, page 300, steps 300, arm64 300";
     let wanted = format!(
-        "cases: {counts}; probe compared on {counts}; over maps: 210, probe 210; numbers reached:"
+        "cases: {counts}; probe compared on {counts}; over maps: 310, probe 310; numbers reached:"
     );
     assert!(last.starts_with(&wanted), "{last}");
     assert!(last.ends_with("unexplained: 0"), "{last}");
@@ -47,7 +49,7 @@ fn a_program_that_says_nothing_differs_everywhere() {
     let said = String::from_utf8(output.stdout).unwrap();
     assert_eq!(output.status.code(), Some(1));
     assert!(said.contains("probe: (the program has ended)"), "{said}");
-    assert!(said.ends_with("unexplained: 2130\n"), "{said}");
+    assert!(said.ends_with("unexplained: 2430\n"), "{said}");
 }
 
 #[test]

@@ -12,6 +12,9 @@ pub fn of_loader(error: loader::Error) -> u8 {
         loader::Error::InvalidCommandLine => 31,
         loader::Error::CommandLineOverflow => 32,
         loader::Error::CommandLineCopy => UNNUMBERED,
+        // of the crate's loader of arm64 Images, which is not asked here
+        #[cfg(target_arch = "aarch64")]
+        loader::Error::Pe(_) => UNNUMBERED,
     }
 }
 

@@ -55,7 +55,9 @@ impl Published {
             Question::Bzimage(load) => self.bzimage(load),
             Question::Line(calls) => Answer::Line(lines::answer_calls(calls).0),
             Question::LineLoad(load) => self.line_load(load),
-            Question::Words(_) => unreachable!("the crate is not asked for words"),
+            Question::Words(_) | Question::Arm64(_) => {
+                unreachable!("the crate is not asked for these")
+            }
             Question::PageBuild(build) => pages::build(build),
             Question::PageRead(read) => pages::read(read),
             Question::Steps(_) => unreachable!("the crate has no load in steps"),

@@ -29,6 +29,7 @@ impl Backend for Proved {
             Question::PageBuild(build) => pages::build(build),
             Question::PageRead(read) => pages::read(read),
             Question::Steps(asked) => Answer::Steps(portions::steps(asked)),
+            Question::Arm64(load) => loads::arm64(load, &map),
         })
     }
 }

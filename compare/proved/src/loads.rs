@@ -105,3 +105,24 @@ pub fn bzimage(load: &Load, map: &[u64]) -> Answer {
     });
     Answer::Bzimage { outcome, guest }
 }
+
+pub fn arm64(load: &Load, map: &[u64]) -> Answer {
+    let mut guest = load.guest.clone();
+    let mut out = [7u64; entry::ARM64_LOAD_OUT];
+    // SAFETY: as above.
+    let number = unsafe {
+        entry::rekusoyen_arm64_load(
+            guest.as_mut_ptr(),
+            guest.len(),
+            map.as_ptr(),
+            map.len(),
+            load.image.as_ptr(),
+            load.image.len(),
+            load.options.offset.unwrap_or(0),
+            out.as_mut_ptr(),
+            out.len(),
+        )
+    };
+    let outcome = outcome(number, || (out[0], out[1]));
+    Answer::Arm64 { outcome, guest }
+}

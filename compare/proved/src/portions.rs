@@ -12,6 +12,7 @@ pub fn steps(asked: &Steps) -> StepsTold {
     match asked.loader {
         Loader::Elf => told(asked, &mut Elf::begin(asked)),
         Loader::Bzimage => told(asked, &mut Bzimage::begin(asked)),
+        Loader::Arm64 => told(asked, &mut Arm64::begin(asked)),
     }
 }
 
@@ -191,5 +192,58 @@ impl Load for Bzimage {
             end: values[1],
             header: self.header.to_vec(),
         }))
+    }
+}
+
+#[derive(Clone)]
+struct Arm64([u64; entry::ARM64_STATE]);
+
+impl Arm64 {
+    fn begin(asked: &Steps) -> Arm64 {
+        let mut state = [UNTOUCHED; entry::ARM64_STATE];
+        let base = asked.options.offset.unwrap_or(0);
+        // SAFETY: the state is lent to this call alone.
+        let number = unsafe { entry::rekusoyen_arm64_begin(state.as_mut_ptr(), state.len(), base) };
+        assert_eq!(number, 0);
+        Arm64(state)
+    }
+}
+
+impl Load for Arm64 {
+    type State = [u64; entry::ARM64_STATE];
+
+    fn state(&self) -> Self::State {
+        self.0
+    }
+
+    fn call(
+        &mut self,
+        guest: &mut [u8],
+        map: &[u64],
+        image: &[u8],
+        budget: u64,
+    ) -> (u32, Vec<u64>) {
+        let mut out = vec![UNTOUCHED; entry::ARM64_STEP_OUT];
+        // SAFETY: as above.
+        let number = unsafe {
+            entry::rekusoyen_arm64_step(
+                guest.as_mut_ptr(),
+                guest.len(),
+                map.as_ptr(),
+                map.len(),
+                image.as_ptr(),
+                image.len(),
+                self.0.as_mut_ptr(),
+                self.0.len(),
+                budget,
+                out.as_mut_ptr(),
+                out.len(),
+            )
+        };
+        (number, out)
+    }
+
+    fn answer(&self, number: u32, values: &[u64]) -> Told {
+        Told::Arm64(outcome(number, || (values[0], values[1])))
     }
 }

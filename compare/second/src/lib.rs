@@ -4,6 +4,7 @@
 //! a slip in one of the three shows as a difference. It favours plainness over speed: sums are taken in 128 bits, where nothing
 //! can wrap, and everything works on slices.
 
+pub mod arm64;
 pub mod bzimage;
 pub mod device;
 pub mod elf;

@@ -2,7 +2,7 @@
 
 use crate::fields::within_limit;
 use crate::map::Map;
-use crate::{bzimage, elf, Refusal, Rules};
+use crate::{arm64, bzimage, elf, Refusal, Rules};
 
 /// Every byte that a load writes, in its order: the address in guest memory, and the place in the image.
 pub type Writes = Vec<(usize, usize)>;
@@ -46,6 +46,22 @@ impl Loads for bzimage::Loaded {
     ) -> (Result<Self, Refusal>, Writes) {
         let answer = bzimage::load(image, &mut guest.to_vec(), map, offset, highmem);
         let writes = answer.map_or(Vec::new(), |loaded| bzimage::writes(image, &loaded));
+        (answer, writes)
+    }
+}
+
+/// The base is the offset, and 0 where none is given.
+impl Loads for arm64::Loaded {
+    fn whole(
+        _: Rules,
+        image: &[u8],
+        guest: &[u8],
+        map: &[u64],
+        offset: Option<u64>,
+        _: Option<u64>,
+    ) -> (Result<Self, Refusal>, Writes) {
+        let answer = arm64::load(image, &mut guest.to_vec(), map, offset.unwrap_or(0));
+        let writes = answer.map_or(Vec::new(), |loaded| arm64::writes(image, &loaded));
         (answer, writes)
     }
 }

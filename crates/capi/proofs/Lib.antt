@@ -1,2 +1,3 @@
 pub mod LoadsLaws
+pub mod Arm64LoadsLaws
 pub mod Outcomes

@@ -6,6 +6,7 @@ use answers::Refusal;
 use guest::ImagePlace;
 use guest::maps;
 
+pub mod arm64_images;
 mod bzimage_told;
 pub mod elf_told;
 pub mod options;

@@ -4,6 +4,8 @@ pub mod StatesLaws
 pub mod ElfStepsLaws
 pub mod BzImageStepsLaws
 pub mod KeptLaws
+pub mod Arm64StepsLaws
 pub mod StateKept
 pub mod BzImageStateKept
+pub mod Arm64StateKept
 pub mod Outcomes

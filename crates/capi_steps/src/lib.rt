@@ -9,6 +9,8 @@ use answers::Refusal;
 use capi::options;
 use guest::maps;
 
+pub mod arm64_images;
+mod arm64_state;
 mod bzimage_state;
 mod elf_state;
 mod load_state;

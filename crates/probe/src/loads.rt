@@ -9,6 +9,7 @@ use guest::Given;
 use guest::GuestAddress;
 use guest::ImagePlace;
 use guest::Map;
+use guest::addresses;
 use guest::maps;
 
 // The address at a place of the body, where it is given.
@@ -92,6 +93,32 @@ fn load_bzimage(body: &[u8], map: Map, image: &[u8], before: &[u8], guest: &mut 
     telling::guest(before, guest);
 }
 
+pub(crate) fn arm64_answer(answer: arm64::Answer) {
+    match answer {
+        arm64::Answer::Loaded(result) => {
+            telling::word(b"arm64 ok");
+            telling::number(result.kernel_load.0);
+            telling::number(result.kernel_end.0);
+        }
+        arm64::Answer::Refused(refusal) => {
+            telling::word(b"arm64 refused");
+            telling::refusal(refusal);
+        }
+    }
+}
+
+// The base is the offset, and 0 where none is given.
+pub(crate) fn base(body: &[u8]) -> GuestAddress {
+    GuestAddress(addresses::amount(offset(body)))
+}
+
+fn load_arm64(body: &[u8], map: Map, image: &[u8], before: &[u8], guest: &mut [u8]) {
+    copying::copy(guest, before);
+    let answer = arm64::load(guest, map, image, base(body));
+    arm64_answer(answer);
+    telling::guest(before, guest);
+}
+
 // Where the guest's bytes begin in the body of a load, and the body's length, if both lengths are right; else 0.
 fn middle(body: &[u8], room: usize) -> usize {
     let image = numbers::read_u32(body, 18) as usize;
@@ -105,8 +132,8 @@ fn middle(body: &[u8], room: usize) -> usize {
     26 + image
 }
 
-// An ELF load, or a load of a bzImage, over a map.
-fn load_over(is_elf: bool, map: Map, body: &[u8], guest: &mut [u8]) {
+// A load of a kind, over a map: 1 and 6 are ELF, 16 is arm64, and all else is a bzImage.
+fn load_over(kind: u64, map: Map, body: &[u8], guest: &mut [u8]) {
     let at = middle(body, guest.len());
     if at < 26 {
         telling::malformed(b"the lengths of image and guest");
@@ -121,29 +148,19 @@ fn load_over(is_elf: bool, map: Map, body: &[u8], guest: &mut [u8]) {
     }
     let start = 0;
     let from = 26;
-    if is_elf {
-        load_elf(
-            body,
-            map,
-            &body[from..at],
-            &body[at..],
-            &mut guest[start..n],
-        );
-    } else {
-        load_bzimage(
-            body,
-            map,
-            &body[from..at],
-            &body[at..],
-            &mut guest[start..n],
-        );
+    let image = &body[from..at];
+    let before = &body[at..];
+    match kind {
+        1 | 6 => load_elf(body, map, image, before, &mut guest[start..n]),
+        16 => load_arm64(body, map, image, before, &mut guest[start..n]),
+        _ => load_bzimage(body, map, image, before, &mut guest[start..n]),
     }
 }
 
 // By the body's kind, over the map that is the whole of the guest.
 pub fn load(body: &[u8], guest: &mut [u8]) {
     let map = maps::whole(numbers::read_u32(body, 22));
-    load_over(numbers::byte_at(body, 0, 0) == 1, map, body, guest);
+    load_over(numbers::byte_at(body, 0, 0), map, body, guest);
 }
 
 // By the body's kind, over its own map.
@@ -154,7 +171,7 @@ pub fn load_with_map(body: &[u8], guest: &mut [u8]) {
         return;
     }
     load_over(
-        numbers::byte_at(body, 0, 0) == 6,
+        numbers::byte_at(body, 0, 0),
         mapped::map(body),
         &body[at..],
         guest,

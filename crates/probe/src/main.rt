@@ -31,12 +31,12 @@ fn answer(body: &[u8], guest: &mut [u8]) {
         2 => loads::note(body),
         4 => lines::calls(body),
         5 => lines::loading(body, guest),
-        6 | 7 => loads::load_with_map(body, guest),
+        6 | 7 | 16 => loads::load_with_map(body, guest),
         8 => lines::loading_with_map(body, guest),
         9 => line_words::read(body),
         10 => pages::build(body, guest),
         11 => pages::read(body, guest),
-        14 | 15 => portions::steps(body, guest),
+        14 | 15 | 17 => portions::steps(body, guest),
         _ => telling::malformed(b"no such kind"),
     }
 }

@@ -53,6 +53,18 @@ fn bzimage_reply(copied: u64, reply: bzimage::steps::Reply, outcome: bzimage::Ou
     }
 }
 
+fn arm64_reply(copied: u64, reply: arm64::steps::Reply) {
+    match reply {
+        arm64::steps::Reply::More => telling::number(copied),
+        arm64::steps::Reply::Answers(answer) => {
+            telling::number(copied);
+            telling::word(b" ");
+            loads::arm64_answer(answer);
+        }
+        arm64::steps::Reply::Refused(refusal) => refused(refusal),
+    }
+}
+
 // One call, over what it is lent.
 fn elf_step(
     state: elf::steps::State,
@@ -82,6 +94,20 @@ fn bzimage_step(
     begin_call();
     bzimage_reply(stepped.copied, reply, outcome);
     state
+}
+
+fn arm64_step(
+    state: arm64::steps::State,
+    map: Map,
+    image: &[u8],
+    budget: u64,
+    guest: &mut [u8],
+) -> arm64::steps::State {
+    let stepped = arm64::steps::step(guest, map, image, state, budget);
+    let reply = stepped.reply;
+    begin_call();
+    arm64_reply(stepped.copied, reply);
+    stepped.state
 }
 
 // The first of the bytes that are the image of a call, the place behind the last, and how much of the guest it is lent.
@@ -151,6 +177,31 @@ fn bzimage_call(
     )
 }
 
+fn arm64_call(
+    state: arm64::steps::State,
+    map: Map,
+    bytes: &[u8],
+    call: &[u8],
+    guest: &mut [u8],
+) -> arm64::steps::State {
+    let l = lent(call, bytes.len(), guest.len());
+    let from = l.from;
+    let to = l.to;
+    let n = l.guest;
+    if bytes.len() < to || to < from || guest.len() < n {
+        return state;
+    }
+    let start = 0;
+    let budget = numbers::read_u64(call, 0);
+    arm64_step(
+        state,
+        map_of(call, map, n),
+        &bytes[from..to],
+        budget,
+        &mut guest[start..n],
+    )
+}
+
 // Every call, one after the other.
 fn elf_calls(state: elf::steps::State, map: Map, bytes: &[u8], calls: &[u8], guest: &mut [u8]) {
     let mut state = state;
@@ -184,6 +235,19 @@ fn bzimage_calls(
     }
 }
 
+fn arm64_calls(state: arm64::steps::State, map: Map, bytes: &[u8], calls: &[u8], guest: &mut [u8]) {
+    let mut state = state;
+    let mut at = 0;
+    while at < calls.len() {
+        if calls.len() - at < CALL {
+            return;
+        }
+        let next = at + CALL;
+        state = arm64_call(state, map, bytes, &calls[at..], guest);
+        at = next;
+    }
+}
+
 // The calls of a load into guest memory that is as before.
 fn load_elf(body: &[u8], map: Map, bytes: &[u8], before: &[u8], calls: &[u8], guest: &mut [u8]) {
     copying::copy(guest, before);
@@ -208,7 +272,16 @@ fn load_bzimage(
     telling::guest(before, guest);
 }
 
-fn over(is_elf: bool, map: Map, body: &[u8], guest: &mut [u8]) {
+fn load_arm64(body: &[u8], map: Map, bytes: &[u8], before: &[u8], calls: &[u8], guest: &mut [u8]) {
+    copying::copy(guest, before);
+    telling::word(b"steps");
+    let state = arm64::steps::begin(loads::base(body));
+    arm64_calls(state, map, bytes, calls, guest);
+    telling::guest(before, guest);
+}
+
+// A load of a kind: 14 is ELF, 15 a bzImage, and 17 arm64.
+fn over(kind: u64, map: Map, body: &[u8], guest: &mut [u8]) {
     let from = 26;
     let middle = from + numbers::read_u32(body, 18) as usize;
     let n = numbers::read_u32(body, 22) as usize;
@@ -222,24 +295,13 @@ fn over(is_elf: bool, map: Map, body: &[u8], guest: &mut [u8]) {
         return;
     }
     let start = 0;
-    if is_elf {
-        load_elf(
-            body,
-            map,
-            &body[from..middle],
-            &body[middle..end],
-            &body[end..],
-            &mut guest[start..n],
-        );
-    } else {
-        load_bzimage(
-            body,
-            map,
-            &body[from..middle],
-            &body[middle..end],
-            &body[end..],
-            &mut guest[start..n],
-        );
+    let bytes = &body[from..middle];
+    let before = &body[middle..end];
+    let calls = &body[end..];
+    match kind {
+        14 => load_elf(body, map, bytes, before, calls, &mut guest[start..n]),
+        17 => load_arm64(body, map, bytes, before, calls, &mut guest[start..n]),
+        _ => load_bzimage(body, map, bytes, before, calls, &mut guest[start..n]),
     }
 }
 
@@ -251,7 +313,7 @@ pub fn steps(body: &[u8], guest: &mut [u8]) {
         return;
     }
     over(
-        numbers::byte_at(body, 0, 0) == 14,
+        numbers::byte_at(body, 0, 0),
         mapped::map(body),
         &body[at..],
         guest,

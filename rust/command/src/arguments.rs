@@ -18,11 +18,12 @@ entry (pvh: an address, none, or ignored). Those addresses are decimal.
 
   --guest SIZE       guest memory, from address 0; 1G if not given
   --offset ADDRESS   ELF: move every segment by this; bzImage: load here
+  --base ADDRESS     arm64: load behind this multiple of 2M; 0 if not given
   --highmem ADDRESS  refuse a kernel whose e_entry (ELF) or code32_start
                      (bzImage), before any --offset, lies below this address
   --cmdline TEXT     put this command line into guest memory, too
   --at ADDRESS       and put it here; at the kernel's end if not given
-  --format FORMAT    elf, bzimage or auto; auto if not given
+  --format FORMAT    elf, bzimage, arm64 or auto; auto if not given
   --verbose          show each segment and note, of a refused load too
   --help, --version
 
@@ -46,6 +47,7 @@ pub enum Request {
 pub enum Format {
     Elf,
     BzImage,
+    Arm64,
     Auto,
 }
 
@@ -54,6 +56,7 @@ pub enum Format {
 pub struct Load {
     pub guest: u64,
     pub offset: Option<GuestAddress>,
+    pub base: Option<GuestAddress>,
     pub highmem: Option<GuestAddress>,
     pub cmdline: Option<String>,
     pub at: Option<GuestAddress>,
@@ -66,6 +69,7 @@ impl Default for Load {
         Load {
             guest: 1 << 30,
             offset: None,
+            base: None,
             highmem: None,
             cmdline: None,
             at: None,
@@ -120,6 +124,7 @@ pub fn read(name: &str, words: Vec<OsString>) -> Result<Request, lexopt::Error> 
             Value(word) if file.is_none() => file = Some(word),
             Long("guest") => load.guest = typed.number("guest", parser)?,
             Long("offset") => load.offset = typed.address("offset", parser)?,
+            Long("base") => load.base = typed.address("base", parser)?,
             Long("highmem") => load.highmem = typed.address("highmem", parser)?,
             Long("cmdline") => load.cmdline = Some(typed.value("cmdline", parser)?),
             Long("at") => load.at = typed.address("at", parser)?,
@@ -159,8 +164,9 @@ fn format(text: &str) -> Result<Format, lexopt::Error> {
     match text {
         "elf" => Ok(Format::Elf),
         "bzimage" => Ok(Format::BzImage),
+        "arm64" => Ok(Format::Arm64),
         "auto" => Ok(Format::Auto),
-        _ => Err(format!("'{text}' is no format: there are elf, bzimage and auto").into()),
+        _ => Err(format!("'{text}' is no format: there are elf, bzimage, arm64 and auto").into()),
     }
 }
 
@@ -196,10 +202,11 @@ mod tests {
 
     #[test]
     fn all_options_are_read() {
-        let words = "load --guest 64M --offset=0x10 --highmem 1K --cmdline quiet --at 7 --format elf --verbose";
+        let words = "load --guest 64M --offset=0x10 --base 2M --highmem 1K --cmdline quiet --at 7 --format elf --verbose";
         let expected = Load {
             guest: 64 << 20,
             offset: Some(GuestAddress(16)),
+            base: Some(GuestAddress(2 << 20)),
             highmem: Some(GuestAddress(1024)),
             cmdline: Some("quiet".to_string()),
             at: Some(GuestAddress(7)),

@@ -1,6 +1,7 @@
 //! A load as the command does it: the image, then the line.
 
 use rekusoyen::cmdline::Cmdline;
+use rekusoyen::loader::arm64::Image;
 use rekusoyen::loader::elf::PvhNote;
 use rekusoyen::loader::{load_cmdline_into, BzImage, Elf, KernelLoaderResult, Step, StepError};
 use rekusoyen::{GuestAddress, Map, Refusal};
@@ -40,11 +41,12 @@ pub struct Refused {
     pub line_at: Option<GuestAddress>,
 }
 
-/// The loader that an image is for: bzImage where only its header's four letters stand, else ELF, whose refusals say what is missing.
+/// The loader that an image is for: bzImage or arm64 where only the four letters of its header stand, else ELF, whose refusals say what is missing.
 pub fn format_of(image: &[u8], asked: Format) -> Format {
     match asked {
         Format::Auto if image.starts_with(b"\x7fELF") => Format::Elf,
         Format::Auto if image.get(0x202..0x206) == Some(b"HdrS") => Format::BzImage,
+        Format::Auto if image.get(56..60) == Some(b"ARM\x64") => Format::Arm64,
         Format::Auto => Format::Elf,
         given => given,
     }
@@ -72,6 +74,10 @@ pub fn load(
     let loaded = match format {
         Format::BzImage => {
             let portions = BzImage::load_in_portions(guest, &map, offset, image, highmem, budget);
+            answered(portions, copied).map(|kernel| (kernel, None))
+        }
+        Format::Arm64 => {
+            let portions = Image::load_in_portions(guest, &map, base_of(asked), image, budget);
             answered(portions, copied).map(|kernel| (kernel, None))
         }
         _ => {
@@ -111,6 +117,11 @@ fn answered<T>(
         }
     }
     unreachable!("the last step answers")
+}
+
+/// The base of an arm64 load.
+pub fn base_of(asked: &Load) -> GuestAddress {
+    asked.base.unwrap_or(GuestAddress(0))
 }
 
 /// Puts a line into guest memory; how many bytes it takes, its zero counted.

@@ -6,7 +6,7 @@ use rekusoyen::loader::elf::{segments, PvhBootCapability, Segment};
 
 use crate::arguments::{Format, Load};
 use crate::explain::elf::Problem;
-use crate::load::{Loaded, PutLine};
+use crate::load::{base_of, Loaded, PutLine};
 use crate::notes::{walk, Stop};
 
 /// The result: a line each, a word and a number.
@@ -37,10 +37,32 @@ pub fn remarks(loaded: &Loaded, image: &[u8], asked: &Load) -> Vec<String> {
             "pvh is ignored since the image has no segment with notes".to_string()
         });
     }
+    remarks.extend(unused(loaded.format, asked));
     if let Some(line) = &loaded.line {
         remarks.extend(overwritten(loaded, image, asked, line));
     }
     remarks
+}
+
+/// Options that are given and have no say in a load of this format.
+fn unused(format: Format, asked: &Load) -> Option<String> {
+    let options = [
+        ("--offset", asked.offset.is_some(), format != Format::Arm64),
+        (
+            "--highmem",
+            asked.highmem.is_some(),
+            format != Format::Arm64,
+        ),
+        ("--base", asked.base.is_some(), format == Format::Arm64),
+    ];
+    let without = options.iter().filter(|(_, given, says)| *given && !says);
+    let names: Vec<&str> = without.map(|(name, ..)| *name).collect();
+    let of = match format {
+        Format::Arm64 => "an arm64 Image",
+        Format::BzImage => "a bzImage",
+        _ => "an ELF image",
+    };
+    (!names.is_empty()).then(|| format!("{} has no say in a load of {of}", names.join(" or ")))
 }
 
 /// The parts of the kernel that a line lies over.
@@ -49,6 +71,11 @@ fn overwritten(loaded: &Loaded, image: &[u8], asked: &Load, line: &PutLine) -> V
     let parts: Vec<(String, u64, u64)> = match loaded.format {
         Format::BzImage => {
             let (start, end) = (loaded.kernel.kernel_load.0, loaded.kernel.kernel_end);
+            vec![("the kernel".to_string(), start, end)]
+        }
+        Format::Arm64 => {
+            let (start, end) = (loaded.kernel.kernel_load.0, loaded.kernel.kernel_end);
+            let end = end.max(start + image.len() as u64);
             vec![("the kernel".to_string(), start, end)]
         }
         _ => segments(image)
@@ -73,10 +100,11 @@ fn overwritten(loaded: &Loaded, image: &[u8], asked: &Load, line: &PutLine) -> V
     over.map(told).collect()
 }
 
-/// What an image says: the segments and notes of an ELF image, or the parts of a bzImage. Of a refused load each says whether it is good.
+/// What an image says: the segments and notes of an ELF image, the parts of a bzImage, or the header of an arm64 Image. Of a refused load each says whether it is good.
 pub fn details(format: Format, image: &[u8], asked: &Load) -> String {
     match format {
         Format::BzImage => bzimage_details(image, asked),
+        Format::Arm64 => arm64_details(image, asked),
         _ => elf_details(image, asked),
     }
 }
@@ -202,6 +230,41 @@ fn bzimage_details(image: &[u8], asked: &Load) -> String {
         header.version & 0xff,
         asked.offset.map_or(header.code32_start, |offset| offset.0)
     )
+}
+
+fn arm64_details(image: &[u8], asked: &Load) -> String {
+    let header = Arm64Header::of(image);
+    let start = header.start(asked);
+    format!(
+        "header: text offset {:#x}, image size {}, flags {:#x}\nkernel: {} bytes to guest {start:#x}, memory to {:#x}\n",
+        header.text_offset,
+        header.image_size,
+        header.flags,
+        image.len(),
+        start + u128::from(header.image_size)
+    )
+}
+
+/// What the header of an arm64 Image says.
+pub struct Arm64Header {
+    pub text_offset: u64,
+    pub image_size: u64,
+    pub flags: u64,
+}
+
+impl Arm64Header {
+    pub fn of(image: &[u8]) -> Arm64Header {
+        Arm64Header {
+            text_offset: number(image, 8, 8),
+            image_size: number(image, 16, 8),
+            flags: number(image, 24, 8),
+        }
+    }
+
+    /// Where the file goes.
+    pub fn start(&self, asked: &Load) -> u128 {
+        u128::from(base_of(asked).0) + u128::from(self.text_offset)
+    }
 }
 
 /// What the setup header of a bzImage says.

@@ -183,6 +183,61 @@ fn a_bzimage_load_prints_two() {
     );
 }
 
+/// An arm64 Image of a header and three bytes, with its text offset at 16 and an image size of 200.
+fn arm64() -> Vec<u8> {
+    let mut image = vec![0; 67];
+    image[8] = 16;
+    image[16] = 200;
+    image[56..60].copy_from_slice(b"ARM\x64");
+    image
+}
+
+#[test]
+fn an_arm64_load_prints_two() {
+    accepted(&["load"], &arm64(), "load 16\nend 216\n");
+    accepted(
+        &["load", "--format", "arm64", "--base", "2M"],
+        &arm64(),
+        "load 2097168\nend 2097368\n",
+    );
+    accepted(
+        &["load", "--verbose", "--guest", "83"],
+        &arm64(),
+        "header: text offset 0x10, image size 200, flags 0x0\nkernel: 67 bytes to guest 0x10, memory to 0xd8\nload 16\nend 216\n",
+    );
+    accepted_with(
+        &["load", "--offset", "1", "--highmem", "2"],
+        &arm64(),
+        "load 16\nend 216\n",
+        "rekusoyen: --offset or --highmem has no say in a load of an arm64 Image\n",
+    );
+    accepted_with(
+        &["load", "--base", "2M"],
+        &bzimage(),
+        &run(&["load"], &bzimage()).out,
+        "rekusoyen: --base has no say in a load of a bzImage\n",
+    );
+}
+
+#[test]
+fn a_refused_arm64_load_says_what_it_was_about() {
+    refused(
+        &["load", "--format", "arm64"],
+        &elf(),
+        "refused 82 BadImageMagic\nat 0x38 there is no 'ARM\\x64' of an arm64 Image: it looks like an ELF image\ntry: without --format arm64\n",
+    );
+    refused(
+        &["load", "--base", "0x201000"],
+        &arm64(),
+        "refused 85 UnalignedBase\nthe base 0x201000 is not a multiple of 0x200000\ntry: --base 0x200000\n",
+    );
+    refused(
+        &["load", "--guest", "82"],
+        &arm64(),
+        "refused 87 NoRoomForImage\nthe file's 67 bytes go to guest 0x10 to 0x53, and guest memory ends at 0x52\ntry: --guest 0x53 or more, or another --base\n",
+    );
+}
+
 #[test]
 fn as_much_guest_memory_as_is_taken() {
     accepted(

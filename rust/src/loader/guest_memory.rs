@@ -6,7 +6,7 @@ use std::io::{self, Read, Seek};
 use vm_memory::bitmap::Bitmap;
 use vm_memory::{GuestMemoryBackend, GuestMemoryRegion, ReadVolatile};
 
-use super::{bzimage, elf, put_line, BzImage, Cmdline, Elf, KernelLoaderResult, Result};
+use super::{arm64, bzimage, elf, put_line, BzImage, Cmdline, Elf, KernelLoaderResult, Result};
 use crate::lent::{Guest, Options};
 use crate::GuestAddress;
 
@@ -14,8 +14,8 @@ use crate::GuestAddress;
 pub trait KernelLoader {
     /// Loads the whole of `kernel_image` into guest memory: it is rewound and read to its end before anything is written.
     ///
-    /// A reader that cannot be rewound is answered with `SeekElfStart` or `SeekBzImageHeader`, one that cannot be read with
-    /// `ReadKernelImage` or `ReadBzImageHeader`.
+    /// A reader that cannot be rewound is answered with `SeekElfStart`, `SeekBzImageHeader` or `SeekImage`, one that cannot be read with
+    /// `ReadKernelImage`, `ReadBzImageHeader` or `ReadImage`.
     fn load<F, M: GuestMemoryBackend>(
         guest_mem: &M,
         kernel_offset: Option<GuestAddress>,
@@ -74,6 +74,28 @@ impl KernelLoader for BzImage {
             guest_mem,
             |guest| bzimage::load(guest, &image, options),
             |kernel| vec![kernel_part(kernel)],
+        )
+    }
+}
+
+impl KernelLoader for arm64::Image {
+    /// The offset is the base, and 0 where none is given; the start of high memory is not looked at.
+    fn load<F, M: GuestMemoryBackend>(
+        guest_mem: &M,
+        kernel_offset: Option<GuestAddress>,
+        kernel_image: &mut F,
+        _highmem_start_address: Option<GuestAddress>,
+    ) -> Result<KernelLoaderResult>
+    where
+        F: Read + ReadVolatile + Seek,
+    {
+        kernel_image.rewind().map_err(|_| arm64::Error::SeekImage)?;
+        let image = rest_of(kernel_image).map_err(|_| arm64::Error::ReadImage)?;
+        let base = kernel_offset.unwrap_or(GuestAddress(0));
+        lend(
+            guest_mem,
+            |guest| arm64::load(guest, &image, base),
+            |kernel| vec![(kernel.kernel_load.0, image.len() as u64)],
         )
     }
 }

@@ -15,6 +15,7 @@ use crate::{GuestAddress, GuestUsize, Refusal};
 
 pub use crate::cmdline::Cmdline;
 
+pub mod arm64;
 pub mod bootparam;
 pub mod bzimage;
 pub mod elf;
@@ -29,7 +30,7 @@ pub use elf::*;
 #[cfg(feature = "vm-memory")]
 pub use guest_memory::{load_cmdline, KernelLoader};
 pub use over_map::{load_cmdline_into_map, MapError};
-pub use portions::{BzImageSteps, ElfSteps, InSteps, Portions, Step, StepError, Steps};
+pub use portions::{Arm64Steps, BzImageSteps, ElfSteps, InSteps, Portions, Step, StepError, Steps};
 
 /// Why a kernel or a line was not put into guest memory.
 #[derive(Clone, Copy, Debug, PartialEq, Eq)]
@@ -48,6 +49,8 @@ pub enum Error {
     InvalidKernelStartAddress,
     /// The end of a segment does not fit into 64 bits.
     MemoryOverflow,
+    /// Failed to load an arm64 Image.
+    Arm64(arm64::Error),
 }
 
 /// A specialized [`Result`](std::result::Result) type for the kernel loader.
@@ -64,6 +67,7 @@ impl fmt::Display for Error {
             Error::CommandLineOverflow => write!(f, "command line overflowed guest memory"),
             Error::InvalidKernelStartAddress => write!(f, "invalid kernel start address"),
             Error::MemoryOverflow => write!(f, "memory to load kernel image is not enough"),
+            Error::Arm64(e) => write!(f, "failed to load arm64 kernel image: {e}"),
         }
     }
 }
@@ -73,6 +77,7 @@ impl std::error::Error for Error {
         match self {
             Error::Bzimage(e) => Some(e),
             Error::Elf(e) => Some(e),
+            Error::Arm64(e) => Some(e),
             _ => None,
         }
     }
@@ -90,10 +95,16 @@ impl From<bzimage::Error> for Error {
     }
 }
 
+impl From<arm64::Error> for Error {
+    fn from(err: arm64::Error) -> Self {
+        Error::Arm64(err)
+    }
+}
+
 /// Where a kernel was put, and what a monitor needs to start it.
 #[derive(Clone, Copy, Debug, Default, PartialEq)]
 pub struct KernelLoaderResult {
-    /// Where the kernel is entered: for an ELF image its entry address, moved by the offset; for a bzImage where its bytes begin.
+    /// Where the kernel is entered: for an ELF image its entry address, moved by the offset; for a bzImage and an arm64 Image where its bytes begin.
     pub kernel_load: GuestAddress,
     /// The first address after the kernel.
     pub kernel_end: GuestUsize,

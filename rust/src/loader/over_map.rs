@@ -2,7 +2,9 @@
 
 use std::fmt;
 
-use super::{bzimage, elf, put, told, BzImage, Cmdline, Elf, Error, KernelLoaderResult, PvhNote};
+use super::{
+    arm64, bzimage, elf, put, told, BzImage, Cmdline, Elf, Error, KernelLoaderResult, PvhNote,
+};
 use crate::lent::{Guest, Options};
 use crate::{GuestAddress, Map, Refusal};
 
@@ -142,6 +144,20 @@ impl BzImage {
         };
         let loaded = bzimage::loaded(Guest::over(guest, map), kernel_image, options);
         loaded.map_err(|refusal| error(refusal, told::by_bzimage))
+    }
+}
+
+impl arm64::Image {
+    /// Loads an arm64 Image as [`load_into`](arm64::Image::load_into) does, into guest memory that has a map. The file lies within one range,
+    /// or the image is refused. No byte outside the ranges changes.
+    pub fn load_into_map(
+        guest: &mut [u8],
+        map: &Map,
+        base: GuestAddress,
+        kernel_image: &[u8],
+    ) -> Result<KernelLoaderResult> {
+        let loaded = arm64::loaded(Guest::over(guest, map), kernel_image, base);
+        loaded.map_err(|refusal| error(refusal, told::by_arm64))
     }
 }
 

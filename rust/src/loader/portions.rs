@@ -3,7 +3,7 @@
 use std::fmt;
 use std::num::NonZeroU64;
 
-use super::{bzimage, elf, told, BzImage, Elf, KernelLoaderResult, PvhNote, Result};
+use super::{arm64, bzimage, elf, told, BzImage, Elf, KernelLoaderResult, PvhNote, Result};
 use crate::entry;
 use crate::lent::{self, Guest, Options};
 use crate::refusal::answered;
@@ -62,7 +62,7 @@ impl fmt::Display for StepError {
 
 impl std::error::Error for StepError {}
 
-/// A loader that can load in steps: [`Elf`] and [`BzImage`].
+/// A loader that can load in steps: [`Elf`], [`BzImage`] and [`arm64::Image`].
 pub trait InSteps: sealed::Sealed {
     /// What is kept between two steps, as the library writes it.
     #[doc(hidden)]
@@ -86,6 +86,7 @@ mod sealed {
 
     impl Sealed for super::Elf {}
     impl Sealed for super::BzImage {}
+    impl Sealed for super::arm64::Image {}
 
     pub struct Begin(pub(super) Options);
 
@@ -146,6 +147,23 @@ impl InSteps for BzImage {
     }
 }
 
+impl InSteps for arm64::Image {
+    type State = [u64; entry::ARM64_STATE];
+    type Loaded = KernelLoaderResult;
+
+    fn begin(options: sealed::Begin) -> Self::State {
+        lent::arm64_begin(options.0)
+    }
+
+    fn step(state: &mut Self::State, lent: sealed::Lent) -> sealed::Stepped<Self::Loaded> {
+        let told = lent::arm64_step(lent.guest, lent.image, state, lent.budget)?;
+        let [copied, answers, number, load, end] = told;
+        let loaded = || arm64::by_values([load, end]);
+        let answer = answer(answers, number, loaded, told::by_arm64);
+        Ok(Step { copied, answer })
+    }
+}
+
 /// A load between two steps. It is a value of its own: a clone goes on from the same place.
 #[derive(Clone, Debug, PartialEq, Eq)]
 pub struct Steps<L: InSteps> {
@@ -157,6 +175,9 @@ pub type ElfSteps = Steps<Elf>;
 
 /// A load of a bzImage between two steps.
 pub type BzImageSteps = Steps<BzImage>;
+
+/// A load of an arm64 Image between two steps.
+pub type Arm64Steps = Steps<arm64::Image>;
 
 impl<L: InSteps> Steps<L> {
     /// A load that is not begun.
@@ -323,6 +344,20 @@ impl BzImage {
         budget: NonZeroU64,
     ) -> Portions<'a, BzImage> {
         let load = Steps::new(kernel_offset, highmem_start_address);
+        Portions::new(load, guest, map, kernel_image, budget)
+    }
+}
+
+impl arm64::Image {
+    /// Loads an arm64 Image in portions of `budget` bytes, as [`Elf::load_in_portions`] does.
+    pub fn load_in_portions<'a>(
+        guest: &'a mut [u8],
+        map: &'a Map,
+        base: GuestAddress,
+        kernel_image: &'a [u8],
+        budget: NonZeroU64,
+    ) -> Portions<'a, arm64::Image> {
+        let load = Steps::new(Some(base), None);
         Portions::new(load, guest, map, kernel_image, budget)
     }
 }

@@ -1,7 +1,7 @@
 //! Which error stands for which refusal. Every refusal of a load has a row of its own. An error without a row is never given for
 //! the bytes that are lent: at most a reader of vm-memory's that fails gives it.
 
-use super::{bzimage, elf, Error};
+use super::{arm64, bzimage, elf, Error};
 use crate::Refusal;
 
 type Rows = [(Refusal, Error)];
@@ -86,6 +86,42 @@ const BY_BZIMAGE: &Rows = &[
     ),
 ];
 
+const BY_ARM64: &Rows = &[
+    (Refusal::ShortImage, Error::Arm64(arm64::Error::ShortImage)),
+    (
+        Refusal::BadImageMagic,
+        Error::Arm64(arm64::Error::BadImageMagic),
+    ),
+    (
+        Refusal::BigEndianImage,
+        Error::Arm64(arm64::Error::BigEndianImage),
+    ),
+    (
+        Refusal::NoImageSize,
+        Error::Arm64(arm64::Error::NoImageSize),
+    ),
+    (
+        Refusal::UnalignedBase,
+        Error::Arm64(arm64::Error::UnalignedBase),
+    ),
+    (
+        Refusal::ImageStartWraps,
+        Error::Arm64(arm64::Error::ImageStartWraps),
+    ),
+    (
+        Refusal::NoRoomForImage,
+        Error::Arm64(arm64::Error::NoRoomForImage),
+    ),
+    (
+        Refusal::ImageEndWraps,
+        Error::Arm64(arm64::Error::ImageEndWraps),
+    ),
+    (
+        Refusal::SliceTooLong,
+        Error::Arm64(arm64::Error::SliceTooLong),
+    ),
+];
+
 const BY_LINE: &Rows = &[
     (Refusal::InvalidCommandLine, Error::InvalidCommandLine),
     (Refusal::CommandLineOverflow, Error::CommandLineOverflow),
@@ -100,6 +136,11 @@ pub(super) fn by_elf(refusal: Refusal) -> Error {
 /// The error of a bzImage load.
 pub(super) fn by_bzimage(refusal: Refusal) -> Error {
     error_in(BY_BZIMAGE, refusal)
+}
+
+/// The error of an arm64 load.
+pub(super) fn by_arm64(refusal: Refusal) -> Error {
+    error_in(BY_ARM64, refusal)
 }
 
 /// The error of a line put into guest memory.
@@ -117,7 +158,7 @@ fn error_in(rows: &Rows, refusal: Refusal) -> Error {
 impl Error {
     /// The refusal that this error stands for. `None` where it stands for none: no bytes lead to it, only a reader that fails.
     pub fn refusal(&self) -> Option<Refusal> {
-        let rows = [BY_ELF, BY_BZIMAGE, BY_LINE];
+        let rows = [BY_ELF, BY_BZIMAGE, BY_ARM64, BY_LINE];
         rows.into_iter()
             .flatten()
             .find(|row| row.1 == *self)
@@ -149,5 +190,12 @@ impl bzimage::Error {
     /// The number of the refusal that this error stands for, as [`loader::Error`](Error::number) has it.
     pub fn number(&self) -> Option<u32> {
         Error::Bzimage(*self).number()
+    }
+}
+
+impl arm64::Error {
+    /// The number of the refusal that this error stands for, as [`loader::Error`](Error::number) has it.
+    pub fn number(&self) -> Option<u32> {
+        Error::Arm64(*self).number()
     }
 }

@@ -172,3 +172,14 @@ pub fn fresh_with(size: usize, written: &[(usize, &[u8])]) -> Vec<u8> {
     }
     guest
 }
+
+/// An arm64 Image: its header, and the bytes behind it.
+pub fn arm64_image(text_offset: u64, image_size: u64, body: &[u8]) -> Vec<u8> {
+    let mut image: Vec<u8> = (0..64).map(|place| 200 - place).collect();
+    put(&mut image, 8, &text_offset.to_le_bytes());
+    put(&mut image, 16, &image_size.to_le_bytes());
+    put(&mut image, 24, &10u64.to_le_bytes());
+    put(&mut image, 56, b"ARM\x64");
+    image.extend(body);
+    image
+}

@@ -144,7 +144,12 @@ mod tests {
     /// Every number that a map has a say in is reached, and many questions are accepted over several ranges.
     #[test]
     fn maps_of_each_kind_are_asked() {
-        for (area, refused) in [(Area::Elf, 10), (Area::Bzimage, 24), (Area::LineLoad, 32)] {
+        for (area, refused) in [
+            (Area::Elf, 10),
+            (Area::Bzimage, 24),
+            (Area::LineLoad, 32),
+            (Area::Arm64, 87),
+        ] {
             let mut counts: BTreeMap<u8, usize> = BTreeMap::new();
             let (mut accepted, mut sixteen) = (0, 0);
             for seed in 0..4000 {

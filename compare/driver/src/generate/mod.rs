@@ -1,5 +1,6 @@
 //! Where questions come from: exhaustively near the worked examples, and at random around every limit.
 
+mod arm64;
 mod bzimage;
 mod elf;
 mod exhaustive;
@@ -30,6 +31,7 @@ pub fn random(area: Area, rng: &mut Rng) -> Question {
         Area::Words => Question::Words(words::question(rng)),
         Area::Page => page::question(rng),
         Area::Steps => Question::Steps(steps::question(rng)),
+        Area::Arm64 => Question::Arm64(arm64::question(rng)),
     }
 }
 

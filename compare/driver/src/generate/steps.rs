@@ -1,7 +1,7 @@
 //! Loads in steps: budgets at and around the ends of segments and of 64 bits, calls that are refused between them, and images that change.
 
 use crate::examples::{self, put};
-use crate::generate::{bzimage, elf, headers, over_map};
+use crate::generate::{arm64, bzimage, elf, headers, over_map};
 use crate::parts::parts;
 use crate::question::{Load, Loader, Options, Question, StepCall, Steps};
 use crate::rng::Rng;
@@ -11,10 +11,10 @@ use second::map::whole;
 const LONGEST: usize = 1_600;
 
 pub fn question(rng: &mut Rng) -> Steps {
-    let loader = if rng.one_in(4) {
-        Loader::Bzimage
-    } else {
-        Loader::Elf
+    let loader = match rng.below(8) {
+        0 | 1 => Loader::Bzimage,
+        2 => Loader::Arm64,
+        _ => Loader::Elf,
     };
     let load = std::iter::repeat_with(|| load(rng, loader));
     let short = |load: &Load| load.image.len() <= LONGEST && load.guest.len() <= LONGEST;
@@ -32,6 +32,8 @@ fn load(rng: &mut Rng, loader: Loader) -> Load {
         (Loader::Elf, _) => good_elf(rng),
         (Loader::Bzimage, 0) => bzimage::question(rng),
         (Loader::Bzimage, _) => good_bzimage(rng),
+        (Loader::Arm64, 0) => arm64::question(rng),
+        (Loader::Arm64, _) => good_arm64(rng),
     }
 }
 
@@ -58,6 +60,15 @@ pub fn image(program_headers: &[Header], body: &[u8]) -> Vec<u8> {
     }
     image.extend(body);
     image
+}
+
+/// The small image with a few bytes behind its header, which has room.
+fn good_arm64(rng: &mut Rng) -> Load {
+    let mut load = examples::small_arm64();
+    load.image.truncate(64);
+    let body = rng.length(0, 9);
+    load.image.extend(rng.bytes(body));
+    load
 }
 
 /// Up to five segments, nearly all of which have room.
@@ -107,6 +118,7 @@ fn of_load(rng: &mut Rng, loader: Loader, load: Load) -> Steps {
     let asked = match loader {
         Loader::Elf => Question::Elf(load.clone()),
         Loader::Bzimage => Question::Bzimage(load.clone()),
+        Loader::Arm64 => Question::Arm64(load.clone()),
     };
     let sizes: Vec<u64> = parts(&asked).into_iter().map(|(_, size)| size).collect();
     let map = if rng.one_in(3) {
@@ -172,7 +184,7 @@ fn changed(rng: &mut Rng, image: &[u8]) -> Vec<u8> {
         }
         let place = match rng.below(4) {
             0 => rng.length(0, image.len() - 1),
-            1 => rng.pick(&[32, 56, 0x1f1, 0x214]),
+            1 => rng.pick(&[8, 32, 56, 0x1f1, 0x214]),
             _ => 64 + rng.length(0, 280),
         };
         if let Some(byte) = changed.get_mut(place) {
@@ -192,7 +204,7 @@ mod tests {
     /// Many loads end in several steps, calls are refused between them, and images change on the way.
     #[test]
     fn loads_of_each_kind_are_asked() {
-        let (mut several, mut refused, mut unclaimed) = ([0; 2], 0, 0);
+        let (mut several, mut refused, mut unclaimed) = ([0; 3], 0, 0);
         for seed in 0..4000 {
             let asked = question(&mut Rng::new(seed));
             let asked_question = Question::Steps(asked.clone());
@@ -212,7 +224,12 @@ mod tests {
             }
             unclaimed += usize::from(unclaimed::first(&asked, &told).is_some());
         }
-        assert!(several[0] > 500 && several[1] > 200, "{several:?}");
+        let least = [400, 200, 100];
+        let enough = several
+            .iter()
+            .zip(least)
+            .all(|(count, least)| *count > least);
+        assert!(enough, "{several:?}");
         assert!(refused > 100 && unclaimed > 100, "{refused}, {unclaimed}");
     }
 }

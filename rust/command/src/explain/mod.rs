@@ -2,6 +2,7 @@
 //! meant is found by reading the image's headers once more, which is not proved. It is found by the refusal's own condition, so that it
 //! is never another one's; where none is found, only what the refusal means is said.
 
+mod arm64;
 mod bzimage;
 pub mod elf;
 mod line;
@@ -30,13 +31,14 @@ impl Explained {
     }
 }
 
-/// Explains why a load was refused, by one of the two loaders, or the line behind it.
+/// Explains why a load was refused, by one of the three loaders, or the line behind it.
 pub fn explain(refused: &Refused, image: &[u8], asked: &Load) -> Explained {
     let refusal = refused.refusal;
     let found = match (refusal, refused.line_at) {
         (Refusal::SliceTooLong, _) => too_long(image, asked),
         (_, Some(at)) => line::explain(refusal, at, asked),
         _ if refused.format == Format::BzImage => bzimage::explain(refusal, image, asked),
+        _ if refused.format == Format::Arm64 => arm64::explain(refusal, image, asked),
         _ => elf::explain(refusal, image, asked),
     };
     found.unwrap_or_else(|| Explained::new(refusal.sentence().to_string()))
@@ -70,6 +72,7 @@ fn more_guest(end: u128) -> Option<String> {
 enum Looks {
     Elf,
     BzImage,
+    Arm64,
     Packed(&'static str),
     Unknown,
 }
@@ -85,6 +88,8 @@ impl Looks {
             Looks::Elf
         } else if image.get(0x202..0x206) == Some(b"HdrS") {
             Looks::BzImage
+        } else if image.get(56..60) == Some(b"ARM\x64") {
+            Looks::Arm64
         } else {
             let found = packed.iter().find(|row| image.starts_with(row.0));
             found.map_or(Looks::Unknown, |row| Looks::Packed(row.1))
@@ -93,18 +98,27 @@ impl Looks {
 
     /// An image that is not of the format that was asked for.
     fn explain(self, about: String, asked: Format) -> Explained {
-        match (self, asked) {
-            (Looks::BzImage, Format::Elf) => Explained::advise(
-                about + ": it looks like a bzImage",
-                "without --format elf".to_string(),
-            ),
-            (Looks::Elf, Format::BzImage) => Explained::advise(
-                about + ": it looks like an ELF image",
-                "without --format bzimage".to_string(),
-            ),
-            (Looks::Packed(what), _) => Explained::advise(
+        let forced = match asked {
+            Format::Auto => None,
+            Format::Elf => Some((Looks::Elf, "elf")),
+            Format::BzImage => Some((Looks::BzImage, "bzimage")),
+            Format::Arm64 => Some((Looks::Arm64, "arm64")),
+        };
+        let what = match self {
+            Looks::Elf => "an ELF image",
+            Looks::BzImage => "a bzImage",
+            Looks::Arm64 => "an arm64 Image",
+            Looks::Packed(what) => what,
+            Looks::Unknown => return Explained::new(about),
+        };
+        match (self, forced) {
+            (Looks::Packed(_), _) => Explained::advise(
                 format!("{about}: it looks like {what}"),
                 "to unpack it first".to_string(),
+            ),
+            (looks, Some((forced, name))) if looks != forced => Explained::advise(
+                format!("{about}: it looks like {what}"),
+                format!("without --format {name}"),
             ),
             _ => Explained::new(about),
         }
@@ -216,11 +230,26 @@ mod tests {
         image
     }
 
+    fn arm64(seed: &mut u64) -> Vec<u8> {
+        let mut image = vec![0; 67];
+        image[56..60].copy_from_slice(b"ARM\x64");
+        put(&mut image, 16, 100, 8);
+        for _ in 0..next(seed) % 3 {
+            let (place, width) = pick(seed, &[(8, 8), (16, 8), (24, 8), (56, 4)]);
+            let limits = [0, 1, 2 << 20, u64::MAX - 20, u64::MAX];
+            put(&mut image, place, pick(seed, &limits), width);
+        }
+        if next(seed) % 4 == 0 {
+            image.truncate(pick(seed, &[0, 3, 59, 60, 63, 64]));
+        }
+        image
+    }
+
     fn question(seed: &mut u64) -> (Vec<u8>, Load) {
-        let image = if next(seed) % 3 == 0 {
-            bzimage(seed)
-        } else {
-            elf(seed)
+        let image = match next(seed) % 6 {
+            0 | 1 => bzimage(seed),
+            2 => arm64(seed),
+            _ => elf(seed),
         };
         let addresses = [
             None,
@@ -234,7 +263,7 @@ mod tests {
         ];
         let mut address = || pick(seed, &addresses).map(GuestAddress);
         let (offset, highmem, at) = (address(), address(), address());
-        let guest = pick(seed, &[0, 18, 19, 37, 38, 48, 54, 64]);
+        let guest = pick(seed, &[0, 18, 19, 37, 38, 48, 54, 64, 80]);
         let line = pick(
             seed,
             &[None, Some("quiet"), Some(" -- single"), Some("a\0b")],
@@ -247,11 +276,21 @@ mod tests {
                 Format::Auto,
                 Format::Elf,
                 Format::BzImage,
+                Format::Arm64,
             ],
         );
+        let bases = [
+            None,
+            None,
+            Some(0),
+            Some(1),
+            Some((2u64 << 20).wrapping_neg()),
+        ];
+        let base = pick(seed, &bases).map(GuestAddress);
         let asked = Load {
             guest,
             offset,
+            base,
             highmem,
             cmdline: line.map(str::to_string),
             at,
@@ -312,7 +351,11 @@ mod tests {
             advice_is_good(&image, &asked, &explained);
         }
         let numbers: Vec<u32> = reached.keys().copied().collect();
-        let wanted: Vec<u32> = (1..=14).chain(21..=24).chain(31..=32).collect();
+        let wanted: Vec<u32> = (1..=14)
+            .chain(21..=24)
+            .chain(31..=32)
+            .chain(81..=88)
+            .collect();
         assert_eq!(numbers, wanted, "{reached:?}");
     }
 

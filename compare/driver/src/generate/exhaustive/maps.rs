@@ -14,6 +14,7 @@ pub fn maps(area: Area) -> Box<dyn Iterator<Item = Question>> {
         Area::Elf => Box::new(of_area.chain(elf())),
         Area::Bzimage => Box::new(of_area.chain(bzimage())),
         Area::LineLoad => Box::new(of_area.chain(lines())),
+        Area::Arm64 => Box::new(of_area.chain(arm64())),
         Area::Note | Area::Line | Area::Words | Area::Page | Area::Steps => {
             Box::new(std::iter::empty())
         }
@@ -77,6 +78,17 @@ fn bzimage() -> impl Iterator<Item = Question> {
             load.options.offset = Some(3);
             load.guest = examples::guest(8);
             Question::Bzimage(load).over(Some(map))
+        })
+    })
+}
+
+/// The small file, over every map of two ranges around its first and its last byte.
+fn arm64() -> impl Iterator<Item = Question> {
+    each_map(2, 6).flat_map(|map| {
+        // the first range begins near the file, and the second behind it
+        [0u64, 6].into_iter().map(move |first| {
+            let numbers = vec![first + map[0], 62 + map[1], 70 + map[2], map[3]];
+            Question::Arm64(examples::small_arm64()).over(Some(numbers))
         })
     })
 }

@@ -1,6 +1,7 @@
 //! Every case of a kind near the worked examples: each byte with each value, each length, and the limits of each field crossed;
 //! program headers of each kind in each order; small maps; and every split of small loads into portions.
 
+mod arm64;
 mod image;
 mod line;
 mod maps;
@@ -30,5 +31,6 @@ fn over_whole_slices(area: Area) -> Box<dyn Iterator<Item = Question>> {
         Area::Words => Box::new(words::words().map(Question::Words)),
         Area::Page => Box::new(page::page()),
         Area::Steps => Box::new(steps::steps().map(Question::Steps)),
+        Area::Arm64 => Box::new(arm64::arm64().map(Question::Arm64)),
     }
 }

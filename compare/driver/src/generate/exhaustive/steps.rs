@@ -4,6 +4,7 @@
 use crate::examples;
 use crate::generate::steps::{image, Header};
 use crate::question::{Loader, Options, StepCall, Steps};
+use second::map::whole;
 
 /// The guest, and the one hole of its map.
 const GUEST: u64 = 20;
@@ -14,7 +15,10 @@ pub fn steps() -> impl Iterator<Item = Steps> {
         let splits = each_split(load.bytes_written);
         splits.flat_map(move |budgets| [load.plain(&budgets), load.with_refused(&budgets)])
     });
-    splits.chain(each_three()).chain(each_change())
+    splits
+        .chain(each_three())
+        .chain(each_change())
+        .chain(arm64())
 }
 
 /// A load, and how many bytes it writes.
@@ -110,6 +114,32 @@ fn bzimage_loads() -> impl Iterator<Item = Small> {
             image,
             bytes_written: kernel.into(),
         }
+    })
+}
+
+/// The small arm64 Image, whose bytes are too many for every split: every first budget, a second that copies the rest or one byte less, and one more.
+fn arm64() -> impl Iterator<Item = Steps> {
+    let load = examples::small_arm64();
+    let total = load.image.len() as u64;
+    (1..=total + 1).flat_map(move |first| {
+        let rest = total.saturating_sub(first);
+        let load = load.clone();
+        [rest, rest.saturating_sub(1)].map(|second| Steps {
+            loader: Loader::Arm64,
+            options: load.options,
+            map: whole(load.guest.len()),
+            bytes: load.image.clone(),
+            guest: load.guest.clone(),
+            calls: [first, second, 1]
+                .map(|budget| StepCall {
+                    budget,
+                    place: 0,
+                    length: u32::MAX,
+                    guest: u32::MAX,
+                    is_whole: false,
+                })
+                .to_vec(),
+        })
     })
 }
 

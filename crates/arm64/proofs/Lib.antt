@@ -1,0 +1,9 @@
+pub mod PlanLaws
+pub mod FileWritten
+pub mod Refusals
+pub mod MoreRoom
+pub mod HolesUntouched
+pub mod WholeSlice
+pub mod StepsLaws
+pub mod InSteps
+pub mod Outcomes

@@ -1,0 +1,49 @@
+-- The sentence "a number is given exactly when its turn comes in the order and its condition holds": a load is accepted exactly where
+-- every test holds, and refused exactly by the first test that fails, with that refusal's number. And the results: the address and the end.
+use Prim.Native.Nat.{ℕ}
+use mathlib.Core.Path.{_≡_, sym, _∙_, ap}
+use mathlib.Core.List.{List, [], _∷_}
+use Rattle.answers.specs.Catalogue.{numberOf}
+use Rattle.answers.specs.Tests.{Test, AllHold, FirstFails}
+use Rattle.answers.specs.declared.Refusal.{Refusal}
+use Rattle.guest.specs.declared.Map.{Map}
+use Rattle.guest.specs.Loading.{Plan}
+use Rattle.guest.specs.Room.{memoryOf}
+use Rattle.guest.proofs.LoadingLaws.{all-planned, first-planned}
+use Rattle.arm64.specs.declared.Answer.{Answer}
+use Rattle.arm64.specs.declared.Answer.the-variants.{Loaded, Refused}
+use Rattle.arm64.specs.declared.KernelLoaderResult.{KernelLoaderResult}
+use Rattle.arm64.specs.Answers.{imageNumber, imageValues}
+use Rattle.arm64.specs.Image.{startOf, endOf}
+use Rattle.arm64.specs.Plan.{tests, loadedAs, imagePlan, ImageLoads}
+use Rattle.arm64.proofs.PlanLaws.{plan-loaded, plan-refused}
+
+module _ (image : List ℕ) (base : ℕ) (map : Map) (guest : List ℕ) {r : Answer} {after : List ℕ} (loads : ImageLoads image base map guest r after) where
+  abbrev row : List Test
+  row = tests image (memoryOf guest map) base
+
+  -- ---- accepted exactly where every test holds
+
+  pub accepted-where : AllHold row → r ≡ Loaded (loadedAs image base)
+  accepted-where h = loads .answer ∙ ap (λ (p : Plan Answer). p .answer) (all-planned Refused row (imagePlan image base) h)
+
+  pub where-accepted : {k : KernelLoaderResult} → r ≡ Loaded k → AllHold row × (k ≡ loadedAs image base)
+  where-accepted e = plan-loaded image (memoryOf guest map) base (sym (loads .answer) ∙ e)
+
+  -- ---- refused exactly by the first test that fails
+
+  pub refused-where : {refusal : Refusal} → FirstFails refusal row → r ≡ Refused refusal
+  refused-where f = loads .answer ∙ ap (λ (p : Plan Answer). p .answer) (first-planned Refused row (imagePlan image base) f)
+
+  pub where-refused : {refusal : Refusal} → r ≡ Refused refusal → FirstFails refusal row
+  where-refused e = plan-refused image (memoryOf guest map) base (sym (loads .answer) ∙ e)
+
+  -- ---- the same by the catalogue: no number with the address and the end, or the refusal's number alone
+
+  pub accepted-values : AllHold row → (imageNumber r ≡ 0) × (imageValues r ≡ startOf image base ∷ endOf image base ∷ [])
+  unfolding imageNumber imageValues
+  accepted-values h = (ap imageNumber (accepted-where h), ap imageValues (accepted-where h))
+
+  pub refused-values : {refusal : Refusal} → FirstFails refusal row → (imageNumber r ≡ numberOf refusal) × (imageValues r ≡ [])
+  unfolding imageNumber imageValues
+  refused-values f = (ap imageNumber (refused-where f), ap imageValues (refused-where f))

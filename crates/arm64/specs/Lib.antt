@@ -1,0 +1,5 @@
+pub mod Image
+pub mod Plan
+pub mod Answers
+pub mod WholeSlice
+pub mod Steps
