@@ -198,9 +198,10 @@ static inline const char *rekusoyen_answer_sentence(uint32_t answer)
 }
 
 /*
- * The stack that a call uses at the most, beside what memcpy and memset themselves use: a load of an image, a note walk or a
- * boot page, a step of a load, and a call on a line. Measured on x86-64, a load of an image or of a line, which keep the map there, uses less than
- * 1,408 bytes, a step, which hands its state on there, less than 4,096, and every other call less than 640.
+ * The stack that a call uses at the most, beside what memcpy and memset themselves use: a load of an image, a note walk, a boot page or a
+ * start block, a step of a load, and a call on a line. Measured on x86-64, a load of an image or of a line, which keep the map there, uses less than
+ * 1,408 bytes, a step, which hands its state on there, less than 4,096, and every other call less than 640; the calls
+ * on a start block, which keep the map there too, were measured on Arm alone, and use less than 2,048.
  */
 #define REKUSOYEN_LOAD_STACK_SIZE ((size_t)2048)
 #define REKUSOYEN_STEP_STACK_SIZE ((size_t)8192)
@@ -569,6 +570,78 @@ uint32_t rekusoyen_page_read(
     uint64_t *out, size_t out_len,
     uint64_t *rows, size_t rows_len,
     uint8_t *header, size_t header_len);
+
+/* ---- the PVH start block */
+
+/*
+ * A monitor that enters a guest by PVH gives it a start block of REKUSOYEN_START_BLOCK_SIZE bytes with a list of modules and a memory map. A row of
+ * either list is REKUSOYEN_START_ROW_NUMBERS numbers: of a module address, size, address of its command line, reserved, 8 bytes each; of the memory
+ * map address and size of 8 bytes, type and reserved of 4.
+ */
+#define REKUSOYEN_START_MAGIC 0x336EC578u
+#define REKUSOYEN_START_BLOCK_SIZE 56
+#define REKUSOYEN_START_BLOCK_NUMBERS 10
+#define REKUSOYEN_START_ROW_NUMBERS 4
+#define REKUSOYEN_START_MODULE_SIZE 32
+#define REKUSOYEN_START_RANGE_SIZE 24
+#define REKUSOYEN_START_CHECK_OUT 1
+
+/*
+ * Writes the start block and its lists into guest memory.
+ *
+ *   guest, map    guest memory and its map, as of a load
+ *   block         the guest address of the block
+ *   modules_at    the guest address of the list of modules
+ *   ranges_at     the guest address of the memory map
+ *   flags         the block's flags
+ *   command_line  the guest address of the command line, and 0 without one
+ *   rsdp          the guest address of the RSDP, and 0 without one
+ *   modules       the numbers of the modules, four each
+ *   ranges        the numbers of the memory map, four for each row
+ *
+ * Refusals:
+ *   SLICE_TOO_LONG  guest_len is above 2^40
+ *   BAD_MAP         the map is not good over the slice
+ *   BAD_LIST        modules_len or ranges_len is not a multiple of 4, a type is 2^32 or more, or a reserved number is not 0
+ *   BAD_PART        a list has 2^32 rows or more; the block or a list with rows does not lie within one range; or two of them overlap
+ *
+ * Leaves, accepted: at block magic, version 1, flags, count of modules (4 bytes each), modules_at, command_line, rsdp, ranges_at (8 each), count of
+ * rows, 0 (4 each); the rows at their addresses; all else as it was. Every number has its least byte first. Leaves, refused: guest as it was.
+ */
+uint32_t rekusoyen_start_write(
+    uint8_t *guest, size_t guest_len,
+    const uint64_t *map, size_t map_len,
+    uint64_t block, uint64_t modules_at, uint64_t ranges_at, uint32_t flags, uint64_t command_line, uint64_t rsdp,
+    const uint64_t *modules, size_t modules_len,
+    const uint64_t *ranges, size_t ranges_len);
+
+/*
+ * Checks the start block at an address, whoever wrote it: accepted where the block and each list that has rows lie within one range, magic and version
+ * are right, and every reserved field, the rows' too, is 0. That parts overlap is not asked, and a block that is not accepted has no number.
+ *
+ *   out  REKUSOYEN_START_CHECK_OUT place: 1 where the block is accepted, 0 where it is not
+ *
+ * Refusals:
+ *   NO_ROOM         out_len is not REKUSOYEN_START_CHECK_OUT
+ *   SLICE_TOO_LONG  guest_len is above 2^40
+ *   BAD_MAP         the map is not good over the slice
+ *
+ * Leaves, refused: out as it was.
+ */
+uint32_t rekusoyen_start_check(
+    const uint8_t *guest, size_t guest_len,
+    const uint64_t *map, size_t map_len,
+    uint64_t block,
+    uint64_t *out, size_t out_len);
+
+/*
+ * Read the REKUSOYEN_START_BLOCK_NUMBERS numbers of a block, rows of modules, and rows of a memory map that stand at an address: as many numbers as the
+ * list takes, in the order of their fields. A byte past the end of guest memory is read as 0. They refuse nothing and test nothing: a checker's
+ * caller reads what was accepted.
+ */
+void rekusoyen_start_block(const uint8_t *guest, size_t guest_len, uint64_t block, uint64_t *numbers, size_t numbers_len);
+void rekusoyen_start_modules(const uint8_t *guest, size_t guest_len, uint64_t modules, uint64_t *numbers, size_t numbers_len);
+void rekusoyen_start_ranges(const uint8_t *guest, size_t guest_len, uint64_t ranges, uint64_t *numbers, size_t numbers_len);
 
 /* ---- lines */
 

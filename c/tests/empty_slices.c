@@ -44,6 +44,21 @@ static void check_loads(void)
     CHECK_KEPT("refused", &header);
 }
 
+static void check_starts(void)
+{
+    struct lent values = lend_list(REKUSOYEN_START_CHECK_OUT), numbers = lend_list(1);
+    const uint64_t no = 0;
+    CHECK_ANSWER("start", rekusoyen_start_write(NULL, 0, NULL, 0, 0, 0, 0, 0, 0, 0, NULL, 0, NULL, 0), REKUSOYEN_BAD_PART);
+    CHECK_ANSWER("out", rekusoyen_start_check(NULL, 0, NULL, 0, 0, NULL, 0), REKUSOYEN_NO_ROOM);
+    CHECK_ANSWER(
+        "start", rekusoyen_start_check(NULL, 0, NULL, 0, 0, numbers_of(&values), REKUSOYEN_START_CHECK_OUT), REKUSOYEN_ACCEPTED);
+    CHECK_LEFT("start", &values, &no);
+    rekusoyen_start_block(NULL, 0, 0, NULL, 0);
+    rekusoyen_start_modules(NULL, 0, 0, NULL, 0);
+    rekusoyen_start_ranges(NULL, 0, 0, numbers_of(&numbers), 1);
+    CHECK_LEFT("start", &numbers, &no);
+}
+
 static void check_pages(void)
 {
     struct lent page = lend_filled(REKUSOYEN_PAGE_SIZE), header = lend_filled(REKUSOYEN_SETUP_HEADER_SIZE);
@@ -111,6 +126,7 @@ void test_empty_slices(void)
 {
     check_loads();
     check_pages();
+    check_starts();
     check_lines_refused();
     check_lines_accepted();
 }

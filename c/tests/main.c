@@ -18,6 +18,7 @@ int main(int count, char **words)
     test_bzimage();
     test_arm64();
     test_pages();
+    test_starts();
     test_line_calls();
     test_line_bytes();
     test_line_output();

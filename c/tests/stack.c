@@ -94,6 +94,18 @@ static uint32_t page_build(void)
     return rekusoyen_page_build(page, sizeof page, setup_header, sizeof setup_header, 1, 2, 3, rows, REKUSOYEN_PAGE_READ_ROWS);
 }
 
+static uint32_t start_write(void)
+{
+    static const uint64_t map[] = {0, sizeof page}, list[] = {1, 2, 3, 0};
+    return rekusoyen_start_write(page, sizeof page, map, 2, 0, 56, 88, 1, 2, 3, list, 4, list, 4);
+}
+
+static uint32_t start_check(void)
+{
+    static const uint64_t map[] = {0, sizeof page};
+    return rekusoyen_start_check(page, sizeof page, map, 2, 0, out, REKUSOYEN_START_CHECK_OUT);
+}
+
 static uint32_t page_read(void)
 {
     return rekusoyen_page_read(
@@ -171,6 +183,8 @@ static const struct {
     {"rekusoyen_arm64_step", arm64_step, REKUSOYEN_STEP_STACK_SIZE},
     {"rekusoyen_page_build", page_build, REKUSOYEN_LOAD_STACK_SIZE},
     {"rekusoyen_page_read", page_read, REKUSOYEN_LOAD_STACK_SIZE},
+    {"rekusoyen_start_write", start_write, REKUSOYEN_LOAD_STACK_SIZE},
+    {"rekusoyen_start_check", start_check, REKUSOYEN_LOAD_STACK_SIZE},
     {"rekusoyen_line_new", line_new, REKUSOYEN_LINE_STACK_SIZE},
     {"rekusoyen_line_try_from", line_try_from, REKUSOYEN_LINE_STACK_SIZE},
     {"rekusoyen_line_insert", line_insert, REKUSOYEN_LINE_STACK_SIZE},

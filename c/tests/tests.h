@@ -8,6 +8,7 @@ void test_notes(void);
 void test_bzimage(void);
 void test_arm64(void);
 void test_pages(void);
+void test_starts(void);
 void test_line_calls(void);
 void test_line_bytes(void);
 void test_line_output(void);

@@ -75,6 +75,15 @@ pub const MAP_RANGES: usize = 16;
 /// How many places the list for a count of words has.
 pub const LINE_WORDS_OUT: usize = 1;
 
+/// How many places the output of [`rekusoyen_start_check`] has.
+pub const START_CHECK_OUT: usize = 1;
+
+/// How many numbers a start block has.
+pub const START_BLOCK_NUMBERS: usize = 10;
+
+/// How many numbers a row of either of its lists has.
+pub const START_ROW_NUMBERS: usize = 4;
+
 extern "C" {
     /// Loads an ELF image. `map` has the ranges of guest memory, start and size in turn. `out` has 6 places: the load address, the kernel's end, PVH (0 ignored, 1 not present, 2 present), its address,
     /// and the place and the size of the descriptor that it was read from.
@@ -431,4 +440,80 @@ extern "C" {
         out: *mut u64,
         out_len: usize,
     ) -> u32;
+
+    /// Writes the PVH start block and its lists, four numbers a row, into guest memory. A refusal leaves it as it was.
+    ///
+    /// # Safety
+    ///
+    /// As of [`rekusoyen_elf_load`].
+    pub fn rekusoyen_start_write(
+        guest: *mut u8,
+        guest_len: usize,
+        map: *const u64,
+        map_len: usize,
+        block: u64,
+        modules_at: u64,
+        ranges_at: u64,
+        flags: u32,
+        command_line: u64,
+        rsdp: u64,
+        modules: *const u64,
+        modules_len: usize,
+        ranges: *const u64,
+        ranges_len: usize,
+    ) -> u32;
+
+    /// Checks the start block at an address, whoever wrote it; `out` has one place, for 1 where it is accepted and else 0.
+    ///
+    /// # Safety
+    ///
+    /// As of [`rekusoyen_elf_load`].
+    pub fn rekusoyen_start_check(
+        guest: *const u8,
+        guest_len: usize,
+        map: *const u64,
+        map_len: usize,
+        block: u64,
+        out: *mut u64,
+        out_len: usize,
+    ) -> u32;
+
+    /// Reads the ten numbers of a start block, as many as the list takes; a byte past the end of guest memory is read as 0.
+    ///
+    /// # Safety
+    ///
+    /// As of [`rekusoyen_elf_load`].
+    pub fn rekusoyen_start_block(
+        guest: *const u8,
+        guest_len: usize,
+        block: u64,
+        numbers: *mut u64,
+        numbers_len: usize,
+    );
+
+    /// Reads rows of modules in the same way, four numbers each.
+    ///
+    /// # Safety
+    ///
+    /// As of [`rekusoyen_elf_load`].
+    pub fn rekusoyen_start_modules(
+        guest: *const u8,
+        guest_len: usize,
+        modules: u64,
+        numbers: *mut u64,
+        numbers_len: usize,
+    );
+
+    /// Reads rows of a memory map in the same way, four numbers each.
+    ///
+    /// # Safety
+    ///
+    /// As of [`rekusoyen_elf_load`].
+    pub fn rekusoyen_start_ranges(
+        guest: *const u8,
+        guest_len: usize,
+        ranges: u64,
+        numbers: *mut u64,
+        numbers_len: usize,
+    );
 }

@@ -31,7 +31,7 @@
 //!
 //! Guest memory may have holes: a [`Map`] names the ranges in which there is memory, and `load_into_map` of each loader and
 //! [`load_cmdline_into_map`](loader::load_cmdline_into_map) take one. Without a map the slice has no hole.
-//! [`boot_page`] builds and reads the zero page of a bzImage.
+//! [`boot_page`] builds and reads the zero page of a bzImage, [`start_info`] writes, checks and reads the PVH start block.
 //!
 //! With the feature `vm-memory`, `loader` has the trait `KernelLoader` and the function `load_cmdline` of linux-loader, with its
 //! signatures: a monitor writes `use rekusoyen::..` for `use linux_loader::..`. Guest memory is then the region that begins at
@@ -57,6 +57,7 @@ mod lent;
 pub mod loader;
 mod map;
 mod refusal;
+pub mod start_info;
 pub mod words;
 
 pub use address::{GuestAddress, GuestUsize};

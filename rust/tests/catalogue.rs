@@ -120,6 +120,18 @@ fn sizes_flags_and_codes_are_those_of_the_header() {
             "REKUSOYEN_LINE_WORDS_OUT",
             entry::LINE_WORDS_OUT.to_string(),
         ),
+        (
+            "REKUSOYEN_START_CHECK_OUT",
+            entry::START_CHECK_OUT.to_string(),
+        ),
+        (
+            "REKUSOYEN_START_BLOCK_NUMBERS",
+            entry::START_BLOCK_NUMBERS.to_string(),
+        ),
+        (
+            "REKUSOYEN_START_ROW_NUMBERS",
+            entry::START_ROW_NUMBERS.to_string(),
+        ),
     ];
     for (name, number) in numbers {
         assert_eq!(defined(name), number, "{name}");

@@ -6,20 +6,21 @@ use images::{arm64_image, fresh, note, note_header, BzImageFile, ElfImage, LOADA
 use rekusoyen::boot_page;
 use rekusoyen::cmdline::{self, Cmdline};
 use rekusoyen::loader::bootparam::boot_e820_entry;
+use rekusoyen::loader::elf::start_info::hvm_memmap_table_entry;
 use rekusoyen::loader::{
     self, arm64, bzimage, elf, load_cmdline_into, load_cmdline_into_map, BzImage, Elf, ElfSteps,
     StepError,
 };
+use rekusoyen::start_info::{self, Start};
 use rekusoyen::words::words;
 use rekusoyen::{GuestAddress, Map, Refusal};
 use vm_memory::MmapRegion;
 
-/// The safe functions lend lists that rise, outputs of the right size and as many places as a line can have words, so that nobody can be
-/// refused for them.
-const NEVER: [Refusal; 3] = [Refusal::BadList, Refusal::NoRoom, Refusal::TooFewPlaces];
+/// The safe functions lend outputs of the right size and as many places as a line can have words, so that nobody can be refused for them.
+const NEVER: [Refusal; 2] = [Refusal::NoRoom, Refusal::TooFewPlaces];
 
 /// The catalogue has these before any function answers them: each goes from here with the request that it is for.
-const LATER: [Refusal; 2] = [Refusal::BadJob, Refusal::BadPart];
+const LATER: [Refusal; 1] = [Refusal::BadJob];
 
 #[test]
 fn every_refusal_is_reached_and_has_its_number() {
@@ -32,6 +33,7 @@ fn every_refusal_is_reached_and_has_its_number() {
         of_maps(),
         of_steps(),
         of_pages(),
+        of_starts(),
         of_long(),
         of_words(),
     ]
@@ -44,6 +46,18 @@ fn every_refusal_is_reached_and_has_its_number() {
         let is_left_out = NEVER.contains(refusal) || LATER.contains(refusal);
         assert_eq!(is_reached, !is_left_out, "{refusal:?}");
     }
+}
+
+fn of_starts() -> Reached {
+    let write = |reserved| {
+        let row = hvm_memmap_table_entry {
+            reserved,
+            ..Default::default()
+        };
+        let answer = start_info::write(&mut [], &Map::default(), Start::default(), &[], &[row]);
+        answer.err().map(Refusal::number)
+    };
+    vec![(Refusal::BadPart, write(0)), (Refusal::BadList, write(1))]
 }
 
 fn of_pages() -> Reached {

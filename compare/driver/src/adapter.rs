@@ -2,14 +2,16 @@
 //! mistakes: the module above names which as `program`.
 
 use super::program::{
-    arm64, bzimage, elf, line::Line, loading, note, page, steps, words, Refusal, Rules,
+    arm64, bzimage, elf, line::Line, loading, note, page, start, steps, words, Refusal, Rules,
 };
 use crate::answer::{
     Answer, Arm64Loaded, BzimageLoaded, CallAnswer, ElfLoaded, Note, NoteWalked, PageFound, Pvh,
-    StepTold, StepsTold, Told,
+    StartFound, StepTold, StepsTold, Told,
 };
 use crate::lists::Lists;
-use crate::question::{Call, Load, Loader, PageBuild, PageRead, Question, Steps, Walk, Words};
+use crate::question::{
+    Call, Load, Loader, PageBuild, PageRead, Question, StartCheck, StartWrite, Steps, Walk, Words,
+};
 
 /// What an untouched byte of a lent output holds.
 const UNTOUCHED: u8 = 0xe7;
@@ -49,6 +51,8 @@ pub fn answer_by(question: &Question, rules: second::Rules) -> Answer {
             }),
         }),
         Question::Arm64(load) => answer_arm64(load, &map),
+        Question::StartWrite(write) => answer_start(write),
+        Question::StartCheck(check) => Answer::StartCheck(answer_check(check)),
     }
 }
 
@@ -99,6 +103,30 @@ fn answer_read(read: &PageRead) -> Result<PageFound, u8> {
             .flat_map(|row| [row.address, row.size, row.kind.into()])
             .collect(),
     })
+}
+
+fn answer_start(write: &StartWrite) -> Answer {
+    let mut guest = write.guest.clone();
+    let start = start::Start {
+        block: write.block,
+        modules: write.modules_at,
+        ranges: write.ranges_at,
+        flags: write.flags,
+        command_line: write.command_line,
+        rsdp: write.rsdp,
+    };
+    let outcome = start::write(&mut guest, &write.map, start, &write.modules, &write.ranges);
+    let outcome = outcome.map_err(Refusal::number);
+    Answer::StartWrite { outcome, guest }
+}
+
+fn answer_check(check: &StartCheck) -> Result<Option<StartFound>, u8> {
+    let found = start::check(&check.guest, &check.map, check.block).map_err(Refusal::number)?;
+    Ok(found.map(|found| StartFound {
+        block: found.block,
+        modules: found.modules,
+        ranges: found.ranges,
+    }))
 }
 
 fn answer_words(asked: &Words) -> Answer {

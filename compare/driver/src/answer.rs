@@ -55,6 +55,17 @@ pub struct PageFound {
     pub numbers: Vec<u64>,
 }
 
+/// What an accepted start block says: its ten numbers, and four for each row of its lists.
+#[derive(Clone, Debug, PartialEq, Eq)]
+pub struct StartFound {
+    pub block: Vec<u64>,
+    pub modules: Vec<u64>,
+    pub ranges: Vec<u64>,
+}
+
+/// How many numbers of a start block's list are told.
+pub const NUMBERS_TOLD: usize = 400;
+
 #[derive(Clone, Debug, PartialEq, Eq)]
 pub enum CallAnswer {
     Ok,
@@ -93,6 +104,12 @@ pub enum Answer {
         page: Vec<u8>,
     },
     PageRead(Result<PageFound, u8>),
+    StartWrite {
+        outcome: Result<(), u8>,
+        guest: Vec<u8>,
+    },
+    /// A block that is not accepted has no number.
+    StartCheck(Result<Option<StartFound>, u8>),
     Steps(StepsTold),
     Arm64 {
         outcome: Result<Arm64Loaded, u8>,
@@ -175,9 +192,7 @@ impl Answer {
                 let (rows, header) = (found.numbers.len() / 3, hex(&found.header));
                 let (at, ramdisk, size) = (found.command_line, found.ramdisk, found.ramdisk_size);
                 line += &format!("page ok {rows} {at} {ramdisk} {size} header {header} rows");
-                for number in &found.numbers {
-                    line += &format!(" {number}");
-                }
+                put_numbers(&mut line, &found.numbers);
             }
             Answer::PageRead(Err(number)) => line += &format!("page refused {number}"),
             Answer::Steps(told) => {
@@ -192,6 +207,23 @@ impl Answer {
                 put_arm64(&mut line, outcome);
                 put_guest(&mut line, before, guest);
             }
+            Answer::StartWrite { outcome, guest } => {
+                match outcome {
+                    Ok(()) => line += "start ok",
+                    Err(number) => line += &format!("start refused {number}"),
+                }
+                put_guest(&mut line, before, guest);
+            }
+            Answer::StartCheck(Ok(Some(found))) => {
+                line += "start accepted";
+                put_numbers(&mut line, &found.block);
+                for (name, list) in [("modules", &found.modules), ("ranges", &found.ranges)] {
+                    line += &format!(" {name}");
+                    put_numbers(&mut line, &list[..list.len().min(NUMBERS_TOLD)]);
+                }
+            }
+            Answer::StartCheck(Ok(None)) => line += "start not accepted",
+            Answer::StartCheck(Err(number)) => line += &format!("start refused {number}"),
         }
         line
     }
@@ -215,6 +247,8 @@ impl Answer {
             Answer::PageRead(outcome) => numbers.extend(outcome.as_ref().err()),
             Answer::Steps(told) => numbers.extend(told.calls.iter().filter_map(step_refusal)),
             Answer::Arm64 { outcome, .. } => numbers.extend(outcome.err()),
+            Answer::StartWrite { outcome, .. } => numbers.extend(outcome.err()),
+            Answer::StartCheck(outcome) => numbers.extend(outcome.as_ref().err()),
         }
         numbers
     }
@@ -236,6 +270,12 @@ fn refusal(call: &CallAnswer) -> Option<u8> {
         CallAnswer::Refused(number) => Some(*number),
         CallAnswer::Written { outcome, .. } => outcome.as_ref().err().copied(),
         _ => None,
+    }
+}
+
+fn put_numbers(line: &mut String, numbers: &[u64]) {
+    for number in numbers {
+        *line += &format!(" {number}");
     }
 }
 

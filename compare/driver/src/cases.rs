@@ -2,7 +2,9 @@
 
 use crate::examples::{put, pvh_note, small_arm64, small_bzimage, small_elf};
 use crate::map_cases;
-use crate::question::{Call, Load, PageBuild, PageRead, Question, Walk, Words};
+use crate::question::{
+    Call, Load, PageBuild, PageRead, Question, StartCheck, StartWrite, Walk, Words,
+};
 use crate::step_cases;
 
 /// A question, and the answer to it in the short form of the test below.
@@ -27,6 +29,7 @@ pub fn all() -> Vec<Case> {
         pages(),
         step_cases::all(),
         arm64(),
+        starts(),
     ]
     .concat()
 }
@@ -768,6 +771,106 @@ fn arm64() -> Vec<Case> {
             &[(8, &[14]), (16, &top)],
             "arm64 refused 87, nothing changed",
         ),
+    ]
+}
+
+fn starts() -> Vec<Case> {
+    const MAGIC: u64 = 0x336e_c578;
+    const ONE: [u64; 4] = [1, 2, 3, 0];
+    let written =
+        |[block, modules_at, ranges_at]: [u64; 3], modules: &[u64], ranges: &[u64], told| {
+            let write = StartWrite {
+                map: vec![0, 120],
+                block,
+                modules_at,
+                ranges_at,
+                flags: 1,
+                command_line: 2,
+                rsdp: 3,
+                modules: modules.to_vec(),
+                ranges: ranges.to_vec(),
+                guest: vec![0; 120],
+            };
+            (Question::StartWrite(write), told)
+        };
+    // the block at 8, a module behind it and a range behind that, with one number of the block another
+    let checked = |block, field: usize, number: u64, told| {
+        let numbers = [MAGIC, 1, 0, 1, 64, 0, 0, 96, 1, 0];
+        let widths = [4, 4, 4, 4, 8, 8, 8, 8, 4, 4];
+        let mut guest = vec![0; 120];
+        let mut place = 8;
+        for (index, width) in widths.into_iter().enumerate() {
+            let number = if index == field {
+                number
+            } else {
+                numbers[index]
+            };
+            put(&mut guest, place, &number.to_le_bytes()[..width]);
+            place += width;
+        }
+        let check = StartCheck {
+            map: vec![0, 120],
+            block,
+            guest,
+        };
+        (Question::StartCheck(check), told)
+    };
+    let refused = "start refused 76, nothing changed";
+    let spoilt = "start refused 61, nothing changed";
+    let no = "start not accepted";
+    let far = u64::MAX;
+    vec![
+        written([0, 56, 88], &ONE, &ONE, "start ok, 0 to 104 changed"),
+        written([64, 0, 32], &ONE, &ONE, "start ok, 0 to 112 changed"),
+        // no rows lie anywhere and overlap nothing
+        written([64, far, 70], &[], &[], "start ok, 64 to 104 changed"),
+        // outside, by one, of each part
+        written([65, 0, 32], &ONE, &ONE, refused),
+        written([0, 89, 56], &ONE, &ONE, refused),
+        written([0, 56, 97], &ONE, &ONE, refused),
+        written([far, 0, 32], &ONE, &ONE, refused),
+        // each two overlap by one
+        written([0, 55, 88], &ONE, &ONE, refused),
+        written([0, 88, 55], &ONE, &ONE, refused),
+        written([0, 56, 87], &ONE, &ONE, refused),
+        written([24, 88, 1], &ONE, &ONE, refused),
+        written([0, 56, 88], &ONE[..3], &ONE, spoilt),
+        written([0, 56, 88], &ONE, &[1, 2, 1 << 32, 0], spoilt),
+        written([0, 56, 88], &ONE, &[1, 2, 3, 1], spoilt),
+        written([0, 56, 88], &[1, 2, 3, 1], &ONE, spoilt),
+        checked(
+            8,
+            2,
+            5,
+            "start accepted 862897528 1 5 1 64 0 0 96 1 0 modules 0 0 0 0 ranges 0 0 0 0",
+        ),
+        // overlapping parts are accepted of what others wrote
+        checked(
+            8,
+            7,
+            64,
+            "start accepted 862897528 1 0 1 64 0 0 64 1 0 modules 0 0 0 0 ranges 0 0 0 0",
+        ),
+        checked(
+            8,
+            3,
+            0,
+            "start accepted 862897528 1 0 0 64 0 0 96 1 0 modules ranges 0 0 0 0",
+        ),
+        checked(7, 2, 0, no),
+        checked(65, 2, 0, no),
+        checked(far, 2, 0, no),
+        checked(8, 0, MAGIC + 1, no),
+        checked(8, 1, 0, no),
+        checked(8, 1, 2, no),
+        checked(8, 9, 1, no),
+        checked(8, 4, 89, no),
+        checked(8, 7, 97, no),
+        // 32 times this is 2^32, 24 times that 3 times 2^32
+        checked(8, 3, 1 << 27, no),
+        checked(8, 8, 1 << 29, no),
+        // the list of modules lies over the block, whose map count stands in its reserved field
+        checked(8, 4, 32, no),
     ]
 }
 

@@ -24,7 +24,7 @@ compare answer            answers questions from standard input with the second 
 
 --seed N                  the seed, 1 where none is given: one seed, one result
 --threads N               how many threads ask, one for each processor where none is given
---elf N --note N --bzimage N --line N --load N --words N --page N --steps N --arm64 N
+--elf N --note N --bzimage N --line N --load N --words N --page N --steps N --arm64 N --start N
                           how many random questions of each area, beside the exhaustive ones
 --exhaustive N            how many sixteenths of the exhaustive questions are asked, all 16 where none is given
 --probe 'PROGRAM WORD..'  the proved program, asked over a pipe
@@ -32,7 +32,7 @@ compare answer            answers questions from standard input with the second 
 
 /// How many random questions are asked where nothing else is said: two minutes for a program under an emulator, seconds else.
 const RANDOM: [u64; Area::COUNT] = [
-    600_000, 200_000, 300_000, 200_000, 100_000, 100_000, 60_000, 80_000, 200_000,
+    600_000, 200_000, 300_000, 200_000, 100_000, 100_000, 60_000, 80_000, 200_000, 150_000,
 ];
 
 struct Words {

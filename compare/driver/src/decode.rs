@@ -2,8 +2,8 @@
 
 use crate::encode::{LARGEST, MOST_PLACES};
 use crate::question::{
-    Call, LineLoad, Load, Loader, Map, Options, PageBuild, PageRead, Question, StepCall, Steps,
-    Walk, Words,
+    Call, LineLoad, Load, Loader, Map, Options, PageBuild, PageRead, Question, StartCheck,
+    StartWrite, StepCall, Steps, Walk, Words,
 };
 use std::io::{self, Read};
 
@@ -97,12 +97,46 @@ pub fn question(body: &[u8]) -> Parsed<Question> {
                 bytes: rest.0.to_vec(),
             })
         }
+        12 => Question::StartWrite(start_write(rest)?),
+        13 => {
+            let map = map(&mut rest)?.expect("a map is read");
+            let (block, length) = (rest.number::<8>()?, rest.0.len() as u64);
+            let guest = rest.bytes(length)?;
+            Question::StartCheck(StartCheck { map, block, guest })
+        }
         14 => Question::Steps(steps(Loader::Elf, rest)?),
         15 => Question::Steps(steps(Loader::Bzimage, rest)?),
         16 => Question::Arm64(load(map(&mut rest)?, rest)?),
         17 => Question::Steps(steps(Loader::Arm64, rest)?),
         _ => return Err("unknown kind"),
     })
+}
+
+fn start_write(mut rest: Rest) -> Parsed<StartWrite> {
+    let mut write = StartWrite {
+        map: map(&mut rest)?.expect("a map is read"),
+        block: rest.number::<8>()?,
+        modules_at: rest.number::<8>()?,
+        ranges_at: rest.number::<8>()?,
+        flags: rest.number::<4>()? as u32,
+        command_line: rest.number::<8>()?,
+        rsdp: rest.number::<8>()?,
+        ..StartWrite::default()
+    };
+    let counts = [rest.number::<2>()? as usize, rest.number::<2>()? as usize];
+    for (list, count) in [&mut write.modules, &mut write.ranges]
+        .into_iter()
+        .zip(counts)
+    {
+        if count > NUMBERS_LIMIT {
+            return Err("too many numbers");
+        }
+        for _ in 0..count {
+            list.push(rest.number::<8>()?);
+        }
+    }
+    write.guest = rest.bytes(rest.0.len() as u64)?;
+    Ok(write)
 }
 
 /// A load in steps: what is lent, and then the calls.

@@ -4,7 +4,7 @@
 use crate::answer::Answer;
 use crate::over_second;
 use crate::parts::{self, Part};
-use crate::question::{Call, Load, Question};
+use crate::question::{Call, Load, Question, StartWrite};
 use second::fields::range;
 use second::line::CAPACITY_LIMIT;
 use second::map::Map;
@@ -20,15 +20,36 @@ pub fn asks_crate(question: &Question) -> bool {
         Question::LineLoad(load) => has_regions(question) && !has_high_bytes(&load.calls),
         // the crate does not read a line back, and its own loader of arm64 Images has other rules
         Question::Words(_) | Question::Arm64(_) => false,
-        Question::PageBuild(_) | Question::PageRead(_) => !page_is_refused(question),
+        Question::PageBuild(_) | Question::PageRead(_) => !is_refused(question),
+        Question::StartWrite(write) => {
+            has_regions(question) && !is_refused(question) && !ends_memory(write)
+        }
+        // the crate does not check a block
+        Question::StartCheck(_) => false,
         // the crate has no load in steps
         Question::Steps(_) => false,
     }
 }
 
-/// The crate has a struct for the boot page and nothing that fills or tests it, so it refuses none.
-fn page_is_refused(question: &Question) -> bool {
+/// The crate has structs for the boot page and the start block and nothing that fills or tests them: it refuses no page, and of a start block
+/// what has no room, part by part as it writes.
+fn is_refused(question: &Question) -> bool {
     !over_second::answer(question).numbers().is_empty()
+}
+
+/// The crate asks that the byte behind the block and the one behind the memory map lie in guest memory too, and so does one of no rows: a part at
+/// the very end of a range is refused there.
+fn ends_memory(write: &StartWrite) -> bool {
+    let behind = [
+        write.block + 56,
+        write
+            .ranges_at
+            .saturating_add(6 * write.ranges.len() as u64),
+    ];
+    let Ok(map) = Map::from_numbers(&write.map, write.guest.len()) else {
+        return true;
+    };
+    write.ranges.is_empty() || behind.iter().any(|place| map.room(*place, 1).is_none())
 }
 
 /// The crate's guest memory is a region for each range of a good map, and one at least: its memory library makes no empty region, and has

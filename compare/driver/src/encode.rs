@@ -17,6 +17,9 @@ pub fn fits(question: &Question) -> bool {
         Question::Words(words) => return words.places.iter().all(|count| *count <= MOST_PLACES),
         Question::PageBuild(_) | Question::PageRead(_) => return true,
         Question::Steps(steps) => &steps.bytes,
+        Question::StartWrite(_) | Question::StartCheck(_) => {
+            return question.guest().len() <= LARGEST;
+        }
     };
     image.len() <= LARGEST && question.guest().len() <= LARGEST
 }
@@ -90,6 +93,29 @@ fn body(question: &Question) -> Vec<u8> {
             out.extend(&read.bytes);
         }
         Question::Steps(steps) => put_steps(&mut out, steps),
+        Question::StartWrite(write) => {
+            out.push(12);
+            put_map(&mut out, &write.map);
+            for address in [write.block, write.modules_at, write.ranges_at] {
+                out.extend(address.to_le_bytes());
+            }
+            out.extend(write.flags.to_le_bytes());
+            out.extend(write.command_line.to_le_bytes());
+            out.extend(write.rsdp.to_le_bytes());
+            for list in [&write.modules, &write.ranges] {
+                put_length2(&mut out, list.len());
+            }
+            for number in write.modules.iter().chain(&write.ranges) {
+                out.extend(number.to_le_bytes());
+            }
+            out.extend(&write.guest);
+        }
+        Question::StartCheck(check) => {
+            out.push(13);
+            put_map(&mut out, &check.map);
+            out.extend(check.block.to_le_bytes());
+            out.extend(&check.guest);
+        }
     }
     out
 }
@@ -103,8 +129,13 @@ fn put_kind(out: &mut Vec<u8>, [without, with]: [u8; 2], map: &Map) {
 }
 
 fn put_kind_and_map(out: &mut Vec<u8>, kind: u8, numbers: &[u64]) {
-    let count = u8::try_from(numbers.len()).expect("a generated map has at most 255 numbers");
-    out.extend([kind, count]);
+    out.push(kind);
+    put_map(out, numbers);
+}
+
+/// The count of a map's numbers, and the numbers.
+fn put_map(out: &mut Vec<u8>, numbers: &[u64]) {
+    out.push(u8::try_from(numbers.len()).expect("a generated map has at most 255 numbers"));
     for number in numbers {
         out.extend(number.to_le_bytes());
     }

@@ -6,6 +6,7 @@ pub fn all() -> Vec<(Vec<u8>, &'static str)> {
     let map = "malformed: the map";
     let over_nothing = |kind| [&[kind, 1][..], &[0; 8]].concat();
     let rows = "malformed: the lengths of page and rows";
+    let start = "malformed: no start block";
     let mut load = vec![1; 26];
     load[18] = 9;
     let mut questions: Vec<_> = [
@@ -39,6 +40,16 @@ pub fn all() -> Vec<(Vec<u8>, &'static str)> {
         (vec![16, 0, 0, 0], lengths),
         (vec![11; 9], "malformed: no page"),
         (vec![11, 1, 0, 1, 0, 0, 0, 0, 0, 0], "malformed: no page"),
+        (vec![12, 2, 0], map),
+        (vec![12; 49], map),
+        ([&[12, 0][..], &[0; 47]].concat(), start),
+        (start_write(401, 0, 401 * 8), start),
+        (start_write(1, 1, 15), start),
+        (vec![13], map),
+        (
+            vec![13, 0, 0, 0, 0, 0, 0, 0, 0],
+            "malformed: no start block",
+        ),
         (vec![14], map),
         (vec![15, 1, 0, 0, 0, 0, 0, 0, 0], map),
         (vec![14, 0], lengths),
@@ -69,6 +80,16 @@ fn page_build(size: u32, rest: usize) -> Vec<u8> {
     let mut body = vec![10];
     body.extend(size.to_le_bytes());
     body.resize(141 + rest, 0);
+    body
+}
+
+/// The body of a start block that is written over no map, with lists that say they have so many numbers, and so many bytes behind that.
+fn start_write(modules: u16, ranges: u16, rest: usize) -> Vec<u8> {
+    let mut body = vec![12, 0];
+    body.resize(46, 0);
+    body.extend(modules.to_le_bytes());
+    body.extend(ranges.to_le_bytes());
+    body.resize(50 + rest, 0);
     body
 }
 

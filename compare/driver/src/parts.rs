@@ -16,6 +16,15 @@ pub fn parts(question: &Question) -> Vec<Part> {
         Question::Bzimage(load) => kernel(load).into_iter().collect(),
         Question::Arm64(load) => file(load).into_iter().collect(),
         Question::LineLoad(load) => written_line(load).into_iter().collect(),
+        Question::StartWrite(write) => {
+            let lists = [
+                (write.modules_at, 8 * write.modules.len() as u64),
+                (write.ranges_at, 6 * write.ranges.len() as u64),
+            ];
+            let lists = lists.into_iter().filter(|(_, size)| *size > 0);
+            lists.chain([(write.block, 56)]).collect()
+        }
+        Question::StartCheck(check) => vec![(check.block, 56)],
         Question::Note(_)
         | Question::Line(_)
         | Question::Words(_)

@@ -68,6 +68,29 @@ impl PageRead {
     }
 }
 
+/// A start block to write into guest memory with its lists, four numbers for each row. A map is always given.
+#[derive(Clone, Debug, Default, PartialEq, Eq)]
+pub struct StartWrite {
+    pub map: Vec<u64>,
+    pub block: u64,
+    pub modules_at: u64,
+    pub ranges_at: u64,
+    pub flags: u32,
+    pub command_line: u64,
+    pub rsdp: u64,
+    pub modules: Vec<u64>,
+    pub ranges: Vec<u64>,
+    pub guest: Vec<u8>,
+}
+
+/// A start block to check.
+#[derive(Clone, Debug, Default, PartialEq, Eq)]
+pub struct StartCheck {
+    pub map: Vec<u64>,
+    pub block: u64,
+    pub guest: Vec<u8>,
+}
+
 /// Whose load is taken in steps.
 #[derive(Clone, Copy, Debug, PartialEq, Eq)]
 pub enum Loader {
@@ -136,6 +159,8 @@ pub enum Question {
     Steps(Steps),
     /// The base is the offset, and 0 where none is given.
     Arm64(Load),
+    StartWrite(StartWrite),
+    StartCheck(StartCheck),
 }
 
 /// A line to read the words of, and how many places each of the three lists has.
@@ -179,8 +204,8 @@ pub enum Call {
     IsEqual,
 }
 
-/// The areas that cases are counted by, one for each kind of question; building a page and reading one are one area, and loads in steps are
-/// one for all loaders.
+/// The areas that cases are counted by, one for each kind of question; building a page and reading one are one area, loads in steps are one for
+/// all loaders, and writing a start block and checking one are one.
 #[derive(Clone, Copy, Debug, PartialEq, Eq)]
 pub enum Area {
     Elf,
@@ -192,11 +217,12 @@ pub enum Area {
     Page,
     Steps,
     Arm64,
+    Start,
 }
 
 impl Area {
     /// How many there are.
-    pub const COUNT: usize = 9;
+    pub const COUNT: usize = 10;
 
     pub const ALL: [Area; Area::COUNT] = [
         Area::Elf,
@@ -208,6 +234,7 @@ impl Area {
         Area::Page,
         Area::Steps,
         Area::Arm64,
+        Area::Start,
     ];
 
     pub fn name(self) -> &'static str {
@@ -221,6 +248,7 @@ impl Area {
             Area::Page => "page",
             Area::Steps => "steps",
             Area::Arm64 => "arm64",
+            Area::Start => "start",
         }
     }
 
@@ -241,6 +269,7 @@ impl Question {
             Question::PageBuild(_) | Question::PageRead(_) => Area::Page,
             Question::Steps(_) => Area::Steps,
             Question::Arm64(_) => Area::Arm64,
+            Question::StartWrite(_) | Question::StartCheck(_) => Area::Start,
         }
     }
 
@@ -251,6 +280,8 @@ impl Question {
             Question::LineLoad(load) => &load.guest,
             Question::PageBuild(build) => &build.page,
             Question::Steps(steps) => &steps.guest,
+            Question::StartWrite(write) => &write.guest,
+            Question::StartCheck(check) => &check.guest,
             Question::Note(_) | Question::Line(_) | Question::Words(_) | Question::PageRead(_) => {
                 &[]
             }
@@ -264,6 +295,8 @@ impl Question {
                 load.map.as_deref()
             }
             Question::LineLoad(load) => load.map.as_deref(),
+            Question::StartWrite(write) => Some(&write.map),
+            Question::StartCheck(check) => Some(&check.map),
             Question::Note(_)
             | Question::Line(_)
             | Question::Words(_)
@@ -284,6 +317,12 @@ impl Question {
         match &mut self {
             Question::Elf(load) | Question::Bzimage(load) | Question::Arm64(load) => load.map = map,
             Question::LineLoad(load) => load.map = map,
+            Question::StartWrite(write) => {
+                write.map = map.unwrap_or_else(|| whole(write.guest.len()));
+            }
+            Question::StartCheck(check) => {
+                check.map = map.unwrap_or_else(|| whole(check.guest.len()));
+            }
             Question::Note(_)
             | Question::Line(_)
             | Question::Words(_)

@@ -32,6 +32,7 @@ const BUDGET: [(Area, usize); Area::COUNT] = [
     (Area::Page, 60_000),
     (Area::Steps, 30_000),
     (Area::Arm64, 24_000),
+    (Area::Start, 40_000),
 ];
 
 /// And those of an area over maps, which come behind all others.
@@ -218,8 +219,7 @@ mod tests {
             .chain(31..=32)
             .chain(41..=51)
             .chain(61..=64)
-            .chain(71..=75)
-            .chain([77])
+            .chain(71..=77)
             .chain(81..=88)
             .collect();
         assert_eq!(numbers, wanted);
@@ -231,7 +231,7 @@ mod tests {
         let lines: usize = lines
             .map(|(question, answer)| answer.line(question.guest()).len() + 1)
             .sum();
-        assert!(bytes + lines < 900 << 10, "{bytes} and {lines}");
+        assert!(bytes + lines < 1 << 20, "{bytes} and {lines}");
         assert!(questions.len() > 2000, "{} questions", questions.len());
     }
 }

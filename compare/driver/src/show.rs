@@ -1,6 +1,6 @@
 //! Questions as a person reads them.
 
-use crate::question::{Call, Load, Map, Options, PageBuild, PageRead, Question, Steps};
+use crate::question::{Call, Load, Map, Options, PageBuild, PageRead, Question, StartWrite, Steps};
 use std::fmt::Write;
 
 pub fn show(question: &Question) -> String {
@@ -30,6 +30,13 @@ pub fn show(question: &Question) -> String {
         Question::PageBuild(build) => show_build(build),
         Question::PageRead(read) => show_read(read),
         Question::Steps(steps) => show_steps(steps),
+        Question::StartWrite(write) => show_write(write),
+        Question::StartCheck(check) => format!(
+            "the start block at {} checked, map {:?}\n{}",
+            check.block,
+            check.map,
+            show_bytes("guest", &check.guest)
+        ),
     }
 }
 
@@ -61,6 +68,14 @@ fn show_read(read: &PageRead) -> String {
         read.place,
         show_bytes("bytes", &read.bytes)
     )
+}
+
+fn show_write(write: &StartWrite) -> String {
+    let places = (write.block, write.modules_at, write.ranges_at);
+    let said = (write.flags, write.command_line, write.rsdp);
+    let (modules, ranges, map) = (&write.modules, &write.ranges, &write.map);
+    let guest = show_bytes("guest", &write.guest);
+    format!("a start block written, parts at {places:?}, says {said:?}, modules {modules:?}, ranges {ranges:?}, map {map:?}\n{guest}")
 }
 
 fn show_options(options: Options) -> String {

@@ -1,6 +1,8 @@
 //! Makes a differing question as small as it can be while it still differs.
 
-use crate::question::{Call, Load, Map, PageBuild, PageRead, Question, Steps, Words};
+use crate::question::{
+    Call, Load, Map, PageBuild, PageRead, Question, StartCheck, StartWrite, Steps, Words,
+};
 
 /// How many questions are asked at most in search of a smaller one.
 const PATIENCE: usize = 20_000;
@@ -91,6 +93,23 @@ fn smaller(question: &Question) -> Vec<Question> {
             .into_iter()
             .map(Question::Steps)
             .collect(),
+        Question::StartWrite(write) => smaller_writes(write).map(Question::StartWrite).collect(),
+        Question::StartCheck(check) => {
+            let mut all = Vec::new();
+            for guest in smaller_bytes(&check.guest) {
+                all.push(StartCheck {
+                    guest,
+                    ..check.clone()
+                });
+            }
+            for map in smaller_maps(&Some(check.map.clone())).into_iter().flatten() {
+                all.push(StartCheck {
+                    map,
+                    ..check.clone()
+                });
+            }
+            all.into_iter().map(Question::StartCheck).collect()
+        }
     }
 }
 
@@ -148,6 +167,44 @@ fn smaller_reads(read: &PageRead) -> impl Iterator<Item = PageRead> + '_ {
         bytes,
         ..read.clone()
     })
+}
+
+/// One row less, one number smaller, or a smaller guest or map.
+fn smaller_writes(write: &StartWrite) -> impl Iterator<Item = StartWrite> + '_ {
+    let mut all = Vec::new();
+    for list in [0, 1] {
+        let numbers = [&write.modules, &write.ranges][list];
+        let mut with = |numbers: Vec<u64>| {
+            let mut smaller = write.clone();
+            *[&mut smaller.modules, &mut smaller.ranges][list] = numbers;
+            all.push(smaller);
+        };
+        for row in 0..numbers.len().div_ceil(4) {
+            let mut fewer = numbers.clone();
+            fewer.drain(4 * row..numbers.len().min(4 * row + 4));
+            with(fewer);
+        }
+        for (index, number) in numbers.iter().enumerate() {
+            for number in smaller_numbers(*number) {
+                let mut lower = numbers.clone();
+                lower[index] = number;
+                with(lower);
+            }
+        }
+    }
+    for guest in smaller_bytes(&write.guest) {
+        all.push(StartWrite {
+            guest,
+            ..write.clone()
+        });
+    }
+    for map in smaller_maps(&Some(write.map.clone())).into_iter().flatten() {
+        all.push(StartWrite {
+            map,
+            ..write.clone()
+        });
+    }
+    all.into_iter()
 }
 
 fn smaller_loads(load: &Load) -> impl Iterator<Item = Load> + '_ {

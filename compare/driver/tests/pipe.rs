@@ -15,12 +15,14 @@ fn run_against(program: &str) -> Output {
     let added = [
         "--words", "300", "--page", "300", "--steps", "300", "--arm64", "300",
     ];
+    let last = ["--start", "300"];
     let alone = ["--exhaustive", "0"];
     let words = [
         &["run", "--probe", program][..],
         &few,
         &more,
         &added,
+        &last,
         &alone,
     ]
     .concat();
@@ -35,9 +37,9 @@ fn a_program_that_answers_right_has_no_difference() {
     assert!(output.status.success(), "{said}");
     let last = said.lines().last().unwrap();
     let counts =
-        "elf 300, note 300, bzimage 30, line 300, load 300, words 300, page 300, steps 300, arm64 300";
+        "elf 300, note 300, bzimage 30, line 300, load 300, words 300, page 300, steps 300, arm64 300, start 300";
     let wanted = format!(
-        "cases: {counts}; probe compared on {counts}; over maps: 310, probe 310; numbers reached:"
+        "cases: {counts}; probe compared on {counts}; over maps: 610, probe 610; numbers reached:"
     );
     assert!(last.starts_with(&wanted), "{last}");
     assert!(last.ends_with("unexplained: 0"), "{last}");

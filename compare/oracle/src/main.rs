@@ -6,6 +6,7 @@ mod numbers;
 mod outside;
 mod pages;
 mod published;
+mod starts;
 
 use driver::backend::Maker;
 use driver::cli::{self, InProcess};

@@ -4,12 +4,13 @@ use crate::guest::{content, Guests};
 use crate::lines;
 use crate::numbers;
 use crate::pages;
+use crate::starts;
 use driver::answer::{Answer, BzimageLoaded, ElfLoaded, NoteWalked, Pvh};
 use driver::backend::{Backend, Reply};
 use driver::compare;
 use driver::domain::{self, WALK_FRONT};
 use driver::examples::put;
-use driver::question::{LineLoad, Load, Options, Question, Walk};
+use driver::question::{LineLoad, Load, Options, Question, StartWrite, Walk};
 use driver::Rules;
 use linux_loader::loader::elf::PvhBootCapability;
 use linux_loader::loader::{load_cmdline, BzImage, Elf, KernelLoader, KernelLoaderResult};
@@ -61,6 +62,8 @@ impl Published {
             Question::PageBuild(build) => pages::build(build),
             Question::PageRead(read) => pages::read(read),
             Question::Steps(_) => unreachable!("the crate has no load in steps"),
+            Question::StartWrite(write) => self.start_write(write),
+            Question::StartCheck(_) => unreachable!("the crate is not asked to check a block"),
         }
     }
 
@@ -109,6 +112,15 @@ impl Published {
             pvh: pvh(loaded.pvh_boot_cap),
             headers: None,
         })
+    }
+
+    fn start_write(&mut self, write: &StartWrite) -> Answer {
+        let memory = self.guests.holding(&write.guest, Some(&write.map));
+        starts::write(write, memory);
+        Answer::StartWrite {
+            outcome: Ok(()),
+            guest: content(memory, &write.guest),
+        }
     }
 
     fn line_load(&mut self, load: &LineLoad) -> Answer {

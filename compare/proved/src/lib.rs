@@ -4,6 +4,7 @@ mod lines;
 mod loads;
 mod pages;
 mod portions;
+mod starts;
 mod words;
 
 use driver::answer::Answer;
@@ -30,6 +31,8 @@ impl Backend for Proved {
             Question::PageRead(read) => pages::read(read),
             Question::Steps(asked) => Answer::Steps(portions::steps(asked)),
             Question::Arm64(load) => loads::arm64(load, &map),
+            Question::StartWrite(write) => starts::write(write),
+            Question::StartCheck(check) => starts::check(check),
         })
     }
 }

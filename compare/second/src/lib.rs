@@ -17,6 +17,7 @@ pub mod page;
 pub mod refusal;
 pub mod rules;
 pub mod separator;
+pub mod start;
 pub mod steps;
 pub mod text;
 pub mod words;

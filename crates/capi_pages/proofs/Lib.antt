@@ -1,2 +1,3 @@
 pub mod PagesLaws
+pub mod StartsLaws
 pub mod Outcomes

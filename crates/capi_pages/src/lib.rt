@@ -1,2 +1,3 @@
-// What a monitor links: the pages that a kernel is started with, under C names.
+// What a monitor links: the pages and start blocks that a kernel is started with, under C names.
 pub mod pages;
+pub mod starts;

@@ -6,6 +6,7 @@ pub mod RangesLaws
 pub mod RowsLaws
 pub mod RowsBack
 pub mod WholeRows
+pub mod RowsPlaces
 pub mod EveryLaws
 pub mod ApartLaws
 pub mod AreRowsLaws

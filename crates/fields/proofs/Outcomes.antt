@@ -42,6 +42,8 @@ use Rattle.fields.proofs.ranges.are_apart.Kinds as are-apart-kinds
 use Rattle.fields.proofs.ranges.are_apart.Reads as are-apart-reads
 use Rattle.fields.proofs.rows.are_rows.Kinds as are-rows-kinds
 use Rattle.fields.proofs.rows.are_rows.Reads as are-rows-reads
+use Rattle.fields.proofs.rows.field_width.Kinds as field-width-kinds
+use Rattle.fields.proofs.rows.field_width.Reads as field-width-reads
 use Rattle.fields.proofs.copying.put.Kinds as put-kinds
 use Rattle.fields.proofs.copying.put.Reads as put-reads
 
@@ -107,3 +109,6 @@ are-rows-one κs a z z' ws ws' p q = (meet p q, refl)
 
 pub put-one : OneOutcome 2 put-kinds.ps put-kinds.r put-reads.Post
 put-one κs a z z' ws ws' p q = (refl, first (meet p q))
+
+pub field-width-one : OneOutcome 1 field-width-kinds.ps field-width-kinds.r field-width-reads.Post
+field-width-one κs a z z' ws ws' p q = (meet p q, refl)

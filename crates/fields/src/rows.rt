@@ -8,7 +8,7 @@ use crate::numbers;
 use crate::ranges;
 
 // The width of the i-th number: a width above 8 counts as 8, and without widths each is 0.
-pub(crate) fn field_width(widths: &[u64], i: usize) -> u64
+pub fn field_width(widths: &[u64], i: usize) -> u64
     ensures { λ r. ⌜ r ≡ fieldWidth (now (widths .entry)) i ⌝ }
 {
     if widths.len() == 0 {

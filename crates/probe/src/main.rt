@@ -9,6 +9,7 @@ mod loads;
 mod mapped;
 mod pages;
 mod portions;
+mod starts;
 mod telling;
 
 // The longest body of a question: an image and a guest of 1 MiB each, and room for the rest.
@@ -36,6 +37,8 @@ fn answer(body: &[u8], guest: &mut [u8]) {
         9 => line_words::read(body),
         10 => pages::build(body, guest),
         11 => pages::read(body, guest),
+        12 => starts::write(body, guest),
+        13 => starts::check(body, guest.len()),
         14 | 15 | 17 => portions::steps(body, guest),
         _ => telling::malformed(b"no such kind"),
     }

@@ -101,7 +101,7 @@ pub fn build(body: &[u8], room: &mut [u8]) {
     build_filled(body, count, &mut room[start..n]);
 }
 
-fn put_numbers(list: &[u64]) {
+pub fn put_numbers(list: &[u64]) {
     let mut i = 0;
     while i < list.len() {
         telling::number(list[i]);

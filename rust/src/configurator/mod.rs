@@ -16,6 +16,7 @@ use vm_memory::{Address, ByteValued, GuestAddress, GuestMemoryBackend};
 use std::fmt;
 
 pub mod linux;
+pub mod pvh;
 
 use std::cmp::max;
 use std::mem::size_of;
@@ -25,6 +26,8 @@ use std::mem::size_of;
 pub enum Error {
     /// Errors specific to the Linux boot protocol configuration.
     Linux(linux::Error),
+    /// Errors specific to the PVH boot protocol configuration.
+    Pvh(pvh::Error),
     /// Boot parameter was specified without its starting address in guest memory.
     MissingStartAddress,
     /// Boot parameter address overflows.
@@ -38,6 +41,7 @@ impl fmt::Display for Error {
         use Error::*;
         let desc = match self {
             Linux(ref _e) => "failed to configure boot parameter by Linux Boot protocol.",
+            Pvh(ref _e) => "failed to configure boot parameter by PVH.",
             MissingStartAddress => {
                 "boot parameter was specified without its starting address in guest memory."
             }
@@ -54,6 +58,7 @@ impl std::error::Error for Error {
         use Error::*;
         match self {
             Linux(ref e) => Some(e),
+            Pvh(ref e) => Some(e),
             MissingStartAddress => None,
             Overflow => None,
             InvalidAddress => None,

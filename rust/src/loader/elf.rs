@@ -15,6 +15,8 @@ use crate::entry;
 use crate::lent::{self, Guest, Options};
 use crate::{GuestAddress, Refusal};
 
+pub mod start_info;
+
 /// Why an ELF image was not loaded.
 #[derive(Clone, Copy, Debug, PartialEq, Eq)]
 pub enum Error {

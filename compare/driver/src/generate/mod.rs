@@ -10,6 +10,7 @@ mod load;
 mod maps;
 mod note;
 mod page;
+mod start;
 mod steps;
 mod text;
 mod words;
@@ -32,6 +33,7 @@ pub fn random(area: Area, rng: &mut Rng) -> Question {
         Area::Page => page::question(rng),
         Area::Steps => Question::Steps(steps::question(rng)),
         Area::Arm64 => Question::Arm64(arm64::question(rng)),
+        Area::Start => start::question(rng),
     }
 }
 

@@ -71,6 +71,7 @@ fn bzimage() -> Vec<u8> {
 #[test]
 fn structs_have_the_same_layout() {
     assert_eq!(proved::layout(), published::layout());
+    assert_eq!(proved::start_layout(), published::start_layout());
 }
 
 #[test]
@@ -119,5 +120,88 @@ fn a_bad_memory_map_is_refused_here_alone() {
     assert_eq!(published::write(&theirs, GuestAddress(0), &page), Ok(()));
     let refused = Err("Linux(ZeroPageSetup)".to_string());
     assert_eq!(proved::write(&ours, GuestAddress(0), &page), refused);
+    assert!(content(&ours) == content(&memory()));
+}
+
+/// An ELF image of one segment, 3 bytes for address 0x1000, where it is entered.
+fn elf() -> Vec<u8> {
+    let mut image = vec![0; 123];
+    image[..7].copy_from_slice(b"\x7fELF\x02\x01\x01");
+    let fields = [
+        (24, 0x1000),
+        (32, 64),
+        (88, 0x1000),
+        (96, 3),
+        (104, 3),
+        (72, 120),
+    ];
+    for (place, number) in fields {
+        image[place..place + 8].copy_from_slice(&u64::to_le_bytes(number));
+    }
+    (image[54], image[56], image[64]) = (56, 1, 1);
+    image[120..].copy_from_slice(b"abc");
+    image
+}
+
+#[test]
+fn a_monitor_starts_the_same_guest_by_pvh() {
+    let (theirs, ours) = (memory(), memory());
+    let entered = published::start_by_pvh(&theirs, &elf());
+    assert_eq!(proved::start_by_pvh(&ours, &elf()), entered);
+    assert!(content(&ours) == content(&theirs));
+}
+
+/// A start block, a memory map and modules of random content, whose fixed fields are right; the counts are any.
+fn start_block(random: &mut Random) -> [(u64, Vec<u8>); 3] {
+    let mut part = |size: usize, fixed: std::ops::Range<usize>| {
+        let mut bytes = vec![0; size];
+        random.fill(&mut bytes);
+        for row in bytes.chunks_mut(fixed.end) {
+            row[fixed.clone()].fill(0);
+        }
+        bytes
+    };
+    let mut block = part(56, 52..56);
+    block[..8].copy_from_slice(&0x1_336e_c578u64.to_le_bytes());
+    let map = part(24 * 5, 20..24);
+    let modules = part(32 * 3, 24..32);
+    let [a, b, c] = [0, 1, 2].map(|_| random.next());
+    [
+        (a % 0x3_1000, block),
+        (0x10_0000 + b % 0xf00, map),
+        (0x10_0f00 + c % 0x80, modules),
+    ]
+}
+
+#[test]
+fn random_start_blocks_are_written_alike() {
+    let mut random = Random(11);
+    for _ in 0..300 {
+        let parts = start_block(&mut random);
+        // the memory map may reach the modules
+        if parts[1].0 + 24 * 5 > parts[2].0 {
+            continue;
+        }
+        let (theirs, ours) = (memory(), memory());
+        let answer = published::write_start(&theirs, &parts);
+        let same = proved::write_start(&ours, &parts);
+        assert_eq!(same, answer, "{parts:?}");
+        // a refusal of the published crate leaves what it wrote before
+        match answer {
+            Ok(()) => assert!(content(&ours) == content(&theirs), "{parts:?}"),
+            Err(_) => assert!(content(&ours) == content(&memory()), "{parts:?}"),
+        }
+    }
+}
+
+/// What the published crate writes and this one refuses.
+#[test]
+fn overlapping_parts_are_refused_here_alone() {
+    let mut parts = start_block(&mut Random(5));
+    (parts[0].0, parts[1].0) = (0x10_0000, 0x10_0037);
+    let (theirs, ours) = (memory(), memory());
+    assert_eq!(published::write_start(&theirs, &parts), Ok(()));
+    let refused = Err("Pvh(StartInfoSetup)".to_string());
+    assert_eq!(proved::write_start(&ours, &parts), refused);
     assert!(content(&ours) == content(&memory()));
 }

@@ -15,6 +15,7 @@ pub fn maps(area: Area) -> Box<dyn Iterator<Item = Question>> {
         Area::Bzimage => Box::new(of_area.chain(bzimage())),
         Area::LineLoad => Box::new(of_area.chain(lines())),
         Area::Arm64 => Box::new(of_area.chain(arm64())),
+        Area::Start => Box::new(of_area),
         Area::Note | Area::Line | Area::Words | Area::Page | Area::Steps => {
             Box::new(std::iter::empty())
         }

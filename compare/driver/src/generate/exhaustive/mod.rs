@@ -7,6 +7,7 @@ mod line;
 mod maps;
 mod note;
 mod page;
+mod start;
 mod steps;
 mod words;
 
@@ -32,5 +33,6 @@ fn over_whole_slices(area: Area) -> Box<dyn Iterator<Item = Question>> {
         Area::Page => Box::new(page::page()),
         Area::Steps => Box::new(steps::steps().map(Question::Steps)),
         Area::Arm64 => Box::new(arm64::arm64().map(Question::Arm64)),
+        Area::Start => Box::new(start::start()),
     }
 }

@@ -1,0 +1,12 @@
+pub mod KindsLaws
+pub mod PartsLaws
+pub mod WritingLaws
+pub mod CheckingLaws
+pub mod ExactRule
+pub mod Refusals
+pub mod Held
+pub mod PlacesAgree
+pub mod OnlyParts
+pub mod ReadBack
+pub mod LargerMemory
+pub mod Outcomes

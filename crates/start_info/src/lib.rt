@@ -1,0 +1,96 @@
+// The PVH start information: Xen's start block with its list of modules and its memory map, written into guest memory and checked there.
+ghost use mathlib.Core.Path.{_≡_};
+ghost use lib.ListN.{length};
+ghost use Rattle.fields.specs.Rows.{fieldWidth, rowsNumbers};
+ghost use Rattle.start_info.specs.Kinds.{blockWidths, moduleWidths, rangeWidths};
+ghost use Rattle.start_info.specs.Writing.{Writes};
+ghost use Rattle.start_info.specs.Checking.{checkOf};
+use answers::Gate;
+use answers::Refusal;
+use fields::rows;
+use guest::GuestAddress;
+use guest::Map;
+use guest::Memory;
+use guest::lent;
+
+mod checking;
+mod kinds;
+mod parts;
+mod writing;
+
+// The addresses of block, modules and memory map, and what else the block says: flags, the addresses of command line and RSDP.
+pub struct Start {
+    pub block: u64,
+    pub modules: u64,
+    pub ranges: u64,
+    pub flags: u32,
+    pub command_line: u64,
+    pub rsdp: u64,
+}
+
+pub enum Answer {
+    Accepted,
+    NotAccepted,
+    Refused(Refusal),
+}
+
+// Writes the block and its lists. A row is four numbers, the last of which is reserved and 0: a module's are address, size and command line,
+// those of a range of the memory map address, size and type. An open gate says that all is written; where it is shut, guest memory is as it was.
+pub fn write(guest: &mut [u8], map: Map, start: Start, modules: &[u64], ranges: &[u64]) -> Gate
+    ensures { λ r. ⌜ Writes start (now (modules .entry)) (now (ranges .entry)) map (now (guest .entry)) r (now (guest .exit)) ⌝ }
+{
+    let memory = Memory {
+        size: guest.len() as u64,
+        map: map,
+    };
+    let gate = writing::ask(memory, start, modules, ranges);
+    match gate {
+        Gate::Shut(_) => gate,
+        Gate::Open => {
+            writing::put(guest, start, modules, ranges);
+            gate
+        }
+    }
+}
+
+// Checks the block at an address, whoever wrote it.
+pub fn check(guest: &[u8], map: Map, block: GuestAddress) -> Answer
+    ensures { λ r. ⌜ r ≡ checkOf map (now (guest .entry)) (block .0) ⌝ }
+{
+    let memory = Memory {
+        size: guest.len() as u64,
+        map: map,
+    };
+    let gate = lent::ask_memory(Gate::Open, memory);
+    match gate {
+        Gate::Shut(refusal) => Answer::Refused(refusal),
+        Gate::Open => {
+            if checking::is_accepted(guest, memory, block.0) {
+                Answer::Accepted
+            } else {
+                Answer::NotAccepted
+            }
+        }
+    }
+}
+
+// Reads the ten numbers of a block, as many as the list takes; a byte past the end is read as 0.
+pub fn read_block(numbers: &mut [u64], guest: &[u8], block: GuestAddress)
+    ensures { λ _. ⌜ now (numbers .exit) ≡ rowsNumbers (fieldWidth blockWidths) (length (now (numbers .entry))) (now (guest .entry)) (block .0) 0 ⌝ }
+{
+    rows::read_rows(numbers, guest, block.0, &kinds::BLOCK);
+}
+
+// Reads the numbers of modules in the same way.
+pub fn read_modules(numbers: &mut [u64], guest: &[u8], modules: GuestAddress)
+    ensures { λ _. ⌜ now (numbers .exit) ≡ rowsNumbers (fieldWidth moduleWidths) (length (now (numbers .entry))) (now (guest .entry)) (modules .0) 0 ⌝ }
+{
+    rows::read_rows(numbers, guest, modules.0, &kinds::MODULE);
+}
+
+// And those of the memory map.
+pub fn read_ranges(numbers: &mut [u64], guest: &[u8], ranges: GuestAddress)
+    ensures { λ _. ⌜ now (numbers .exit) ≡ rowsNumbers (fieldWidth rangeWidths) (length (now (numbers .entry))) (now (guest .entry)) (ranges .0) 0 ⌝ }
+{
+    rows::read_rows(numbers, guest, ranges.0, &kinds::RANGE);
+}

@@ -1,0 +1,188 @@
+//! The PVH start block with its list of modules and its memory map: written into guest memory, checked and read there by the proved library.
+//!
+//! linux-loader leaves it to the monitor to fill the structs; here the library writes block and lists and tests that they have room and are apart.
+
+use crate::entry::{self, START_BLOCK_NUMBERS, START_CHECK_OUT};
+use crate::loader::elf::start_info::{hvm_memmap_table_entry, hvm_modlist_entry, hvm_start_info};
+use crate::refusal::{answered, Refusal};
+use crate::{GuestAddress, Map};
+
+/// Where block and lists go, and what else the block says.
+#[derive(Clone, Copy, Debug, Default, PartialEq, Eq)]
+pub struct Start {
+    /// The guest address of the block.
+    pub block: GuestAddress,
+    /// The guest address of the list of modules.
+    pub modules: GuestAddress,
+    /// The guest address of the memory map.
+    pub memory_map: GuestAddress,
+    /// The block's flags.
+    pub flags: u32,
+    /// The guest address of the command line, and 0 without one.
+    pub command_line: u64,
+    /// The guest address of the RSDP, and 0 without one.
+    pub rsdp: u64,
+}
+
+/// An accepted block, and the rows that it names.
+#[derive(Clone, Debug, PartialEq)]
+pub struct Found {
+    /// The block.
+    pub block: hvm_start_info,
+    /// The modules.
+    pub modules: Vec<hvm_modlist_entry>,
+    /// The rows of the memory map.
+    pub memory_map: Vec<hvm_memmap_table_entry>,
+}
+
+/// Writes the block, with its magic number and version 1, and its lists into guest memory that has a map.
+///
+/// A refusal leaves guest memory as it was: [`BadMap`](Refusal::BadMap), [`BadList`](Refusal::BadList) where a reserved field is not 0, and
+/// [`BadPart`](Refusal::BadPart) where block or list does not lie in one range of guest memory or two of them overlap. A list of no rows lies anywhere.
+///
+/// ```
+/// use rekusoyen::loader::elf::start_info::hvm_memmap_table_entry;
+/// use rekusoyen::start_info::{check, write, Start};
+/// use rekusoyen::{GuestAddress, Map, Refusal};
+///
+/// let mut guest = [0u8; 0x100];
+/// let map = Map::whole(guest.len());
+/// let start = Start {
+///     block: GuestAddress(8),
+///     memory_map: GuestAddress(64),
+///     command_line: 0x20000,
+///     ..Default::default()
+/// };
+/// let ram = hvm_memmap_table_entry { addr: 0, size: 0x9fc00, type_: 1, reserved: 0 };
+/// write(&mut guest, &map, start, &[], &[ram])?;
+///
+/// let found = check(&guest, &map, GuestAddress(8))?.expect("what is written is accepted");
+/// assert_eq!(found.block.cmdline_paddr, 0x20000);
+/// assert_eq!(found.memory_map, [ram]);
+/// assert_eq!(check(&guest, &map, GuestAddress(9)), Ok(None));
+///
+/// // the block would lie over the memory map
+/// let over = Start { block: GuestAddress(9), ..start };
+/// assert_eq!(write(&mut guest, &map, over, &[], &[ram]), Err(Refusal::BadPart));
+/// # Ok::<(), Refusal>(())
+/// ```
+pub fn write(
+    guest: &mut [u8],
+    map: &Map,
+    start: Start,
+    modules: &[hvm_modlist_entry],
+    memory_map: &[hvm_memmap_table_entry],
+) -> Result<(), Refusal> {
+    let modules: Vec<u64> = modules.iter().flat_map(|row| row.numbers()).collect();
+    let ranges: Vec<u64> = memory_map.iter().flat_map(|row| row.numbers()).collect();
+    write_numbers(guest, map, start, &modules, &ranges)
+}
+
+/// The same of the numbers of the rows, four each.
+pub(crate) fn write_numbers(
+    guest: &mut [u8],
+    map: &Map,
+    start: Start,
+    modules: &[u64],
+    ranges: &[u64],
+) -> Result<(), Refusal> {
+    let numbers = map.numbers();
+    // SAFETY: all are slices of Rust's, guest memory borrowed by this call alone. The function keeps none of the pointers.
+    let number = unsafe {
+        entry::rekusoyen_start_write(
+            guest.as_mut_ptr(),
+            guest.len(),
+            numbers.as_ptr(),
+            numbers.len(),
+            start.block.0,
+            start.modules.0,
+            start.memory_map.0,
+            start.flags,
+            start.command_line,
+            start.rsdp,
+            modules.as_ptr(),
+            modules.len(),
+            ranges.as_ptr(),
+            ranges.len(),
+        )
+    };
+    answered(number)
+}
+
+/// Checks the block at an address, whoever wrote it, and reads it with its lists; `None` says that it is not accepted.
+///
+/// A block is accepted where it and both lists lie in guest memory, each within one range of the map, magic number and version are right, and every
+/// reserved field, the rows' too, is 0. That parts overlap is not asked. Refusals: [`BadMap`](Refusal::BadMap), and
+/// [`SliceTooLong`](Refusal::SliceTooLong).
+pub fn check(guest: &[u8], map: &Map, block: GuestAddress) -> Result<Option<Found>, Refusal> {
+    let numbers = map.numbers();
+    let mut out = [0; START_CHECK_OUT];
+    // SAFETY: all are slices of Rust's, the output borrowed by this call alone. The function keeps none of the pointers.
+    let number = unsafe {
+        entry::rekusoyen_start_check(
+            guest.as_ptr(),
+            guest.len(),
+            numbers.as_ptr(),
+            numbers.len(),
+            block.0,
+            out.as_mut_ptr(),
+            out.len(),
+        )
+    };
+    answered(number)?;
+    Ok((out == [1]).then(|| found(guest, block)))
+}
+
+/// What an accepted block says.
+fn found(guest: &[u8], block: GuestAddress) -> Found {
+    let mut numbers = [0; START_BLOCK_NUMBERS];
+    read(entry::rekusoyen_start_block, guest, block.0, &mut numbers);
+    let block = hvm_start_info::from_numbers(numbers);
+    let modules = rows(
+        entry::rekusoyen_start_modules,
+        guest,
+        block.modlist_paddr,
+        block.nr_modules,
+    );
+    let ranges = rows(
+        entry::rekusoyen_start_ranges,
+        guest,
+        block.memmap_paddr,
+        block.memmap_entries,
+    );
+    Found {
+        block,
+        modules: modules
+            .chunks_exact(4)
+            .map(hvm_modlist_entry::from_numbers)
+            .collect(),
+        memory_map: ranges
+            .chunks_exact(4)
+            .map(hvm_memmap_table_entry::from_numbers)
+            .collect(),
+    }
+}
+
+/// A reader of rows of one kind.
+pub(crate) type Reader = unsafe extern "C" fn(*const u8, usize, u64, *mut u64, usize);
+
+/// Reads as many numbers as the list takes.
+pub(crate) fn read(reader: Reader, guest: &[u8], address: u64, numbers: &mut [u64]) {
+    // SAFETY: both are slices of Rust's, the list borrowed by this call alone. The function keeps neither pointer.
+    unsafe {
+        reader(
+            guest.as_ptr(),
+            guest.len(),
+            address,
+            numbers.as_mut_ptr(),
+            numbers.len(),
+        );
+    }
+}
+
+/// The numbers of so many rows, which lie in guest memory.
+fn rows(reader: Reader, guest: &[u8], address: u64, count: u32) -> Vec<u64> {
+    let mut numbers = vec![0; 4 * count as usize];
+    read(reader, guest, address, &mut numbers);
+    numbers
+}
