@@ -22,8 +22,8 @@ void check(int holds, const char *file, int line, const char *format, ...)
 }
 
 #define NAMED(answer) {REKUSOYEN_##answer, #answer, 0}
-/* of a function that is to come: nothing has to answer it yet */
-#define LATER(answer) {REKUSOYEN_##answer, #answer, 1}
+/* of the desk program: no function of the library answers it */
+#define ELSEWHERE(answer) {REKUSOYEN_##answer, #answer, 1}
 
 static struct {
     uint32_t number;
@@ -67,7 +67,7 @@ static struct {
     NAMED(NO_ROOM),
     NAMED(NO_BUDGET),
     NAMED(LENT_CHANGED),
-    LATER(BAD_JOB),
+    ELSEWHERE(BAD_JOB),
     NAMED(UNCLOSED_QUOTE),
     NAMED(TOO_FEW_PLACES),
     NAMED(BAD_PAGE_SIZE),

@@ -2,7 +2,7 @@
 //! mistakes: the module above names which as `program`.
 
 use super::program::{
-    arm64, bzimage, elf, line::Line, loading, note, page, start, steps, words, Refusal, Rules,
+    arm64, bzimage, desk, elf, line::Line, loading, note, page, start, steps, words, Refusal, Rules,
 };
 use crate::answer::{
     Answer, Arm64Loaded, BzimageLoaded, CallAnswer, ElfLoaded, Note, NoteWalked, PageFound, Pvh,
@@ -53,6 +53,12 @@ pub fn answer_by(question: &Question, rules: second::Rules) -> Answer {
         Question::Arm64(load) => answer_arm64(load, &map),
         Question::StartWrite(write) => answer_start(write),
         Question::StartCheck(check) => Answer::StartCheck(answer_check(check)),
+        Question::Job(asked) => {
+            let mut guest = asked.guest.clone();
+            let switched_on = second::Rules::landed().switched_on;
+            let text = desk::run(Rules { switched_on }, &mut guest, &asked.bytes);
+            Answer::Job { text, guest }
+        }
     }
 }
 

@@ -115,6 +115,11 @@ pub enum Answer {
         outcome: Result<Arm64Loaded, u8>,
         guest: Vec<u8>,
     },
+    Job {
+        /// What is printed.
+        text: String,
+        guest: Vec<u8>,
+    },
 }
 
 /// What the calls of a load in steps were told, and the guest afterwards.
@@ -224,6 +229,10 @@ impl Answer {
             }
             Answer::StartCheck(Ok(None)) => line += "start not accepted",
             Answer::StartCheck(Err(number)) => line += &format!("start refused {number}"),
+            Answer::Job { text, guest } => {
+                line += &format!("job {}", hex(text.as_bytes()));
+                put_guest(&mut line, before, guest);
+            }
         }
         line
     }
@@ -249,6 +258,10 @@ impl Answer {
             Answer::Arm64 { outcome, .. } => numbers.extend(outcome.err()),
             Answer::StartWrite { outcome, .. } => numbers.extend(outcome.err()),
             Answer::StartCheck(outcome) => numbers.extend(outcome.as_ref().err()),
+            Answer::Job { text, .. } => {
+                let refusal = text.strip_prefix("refused ");
+                numbers.extend(refusal.and_then(|number| number.trim_end().parse::<u8>().ok()));
+            }
         }
         numbers
     }

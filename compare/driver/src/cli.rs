@@ -1,6 +1,7 @@
 //! The commands.
 
 use crate::backend::Maker;
+use crate::desk_jobs;
 use crate::images::images;
 use crate::over_second;
 use crate::pipe::Pipe;
@@ -21,10 +22,11 @@ compare planted [WORDS]   plants mistakes in a copy of the second program; each 
 compare sample FOLDER     writes a sample of questions to FOLDER/stdin, and the answers to FOLDER/stdout
 compare images FILE..     loads real images by everyone and compares
 compare answer            answers questions from standard input with the second program
+compare desk PROGRAM ..   runs the desk program on every way to print and to break a job
 
 --seed N                  the seed, 1 where none is given: one seed, one result
 --threads N               how many threads ask, one for each processor where none is given
---elf N --note N --bzimage N --line N --load N --words N --page N --steps N --arm64 N --start N
+--elf N --note N --bzimage N --line N --load N --words N --page N --steps N --arm64 N --start N --job N
                           how many random questions of each area, beside the exhaustive ones
 --exhaustive N            how many sixteenths of the exhaustive questions are asked, all 16 where none is given
 --probe 'PROGRAM WORD..'  the proved program, asked over a pipe
@@ -32,7 +34,7 @@ compare answer            answers questions from standard input with the second 
 
 /// How many random questions are asked where nothing else is said: two minutes for a program under an emulator, seconds else.
 const RANDOM: [u64; Area::COUNT] = [
-    600_000, 200_000, 300_000, 200_000, 100_000, 100_000, 60_000, 80_000, 200_000, 150_000,
+    600_000, 200_000, 300_000, 200_000, 100_000, 100_000, 60_000, 80_000, 200_000, 150_000, 30_000,
 ];
 
 struct Words {
@@ -86,6 +88,7 @@ pub fn main(in_process: InProcess) {
             _ => usage(),
         },
         "images" => or_exit(images(&words.others, &backends)),
+        "desk" if !words.others.is_empty() => or_exit(desk_jobs::run(&words.others)),
         "answer" => {
             or_exit(stand_in::answer_all(&mut stdin().lock(), &mut stdout()).map(|()| true))
         }

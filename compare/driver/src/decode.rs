@@ -2,7 +2,7 @@
 
 use crate::encode::{LARGEST, MOST_PLACES};
 use crate::question::{
-    Call, LineLoad, Load, Loader, Map, Options, PageBuild, PageRead, Question, StartCheck,
+    Call, Job, LineLoad, Load, Loader, Map, Options, PageBuild, PageRead, Question, StartCheck,
     StartWrite, StepCall, Steps, Walk, Words,
 };
 use std::io::{self, Read};
@@ -108,6 +108,17 @@ pub fn question(body: &[u8]) -> Parsed<Question> {
         15 => Question::Steps(steps(Loader::Bzimage, rest)?),
         16 => Question::Arm64(load(map(&mut rest)?, rest)?),
         17 => Question::Steps(steps(Loader::Arm64, rest)?),
+        18 => {
+            let length = rest.number::<4>()? as usize;
+            if length > PAGE_LIMIT {
+                return Err("over 64 KiB");
+            }
+            let fill = rest.number::<1>()? as u8;
+            Question::Job(Job {
+                guest: vec![fill; length],
+                bytes: rest.0.to_vec(),
+            })
+        }
         _ => return Err("unknown kind"),
     })
 }

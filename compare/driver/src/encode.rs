@@ -15,7 +15,7 @@ pub fn fits(question: &Question) -> bool {
         Question::Note(walk) => &walk.image,
         Question::Line(_) | Question::LineLoad(_) => return question.guest().len() <= LARGEST,
         Question::Words(words) => return words.places.iter().all(|count| *count <= MOST_PLACES),
-        Question::PageBuild(_) | Question::PageRead(_) => return true,
+        Question::PageBuild(_) | Question::PageRead(_) | Question::Job(_) => return true,
         Question::Steps(steps) => &steps.bytes,
         Question::StartWrite(_) | Question::StartCheck(_) => {
             return question.guest().len() <= LARGEST;
@@ -115,6 +115,12 @@ fn body(question: &Question) -> Vec<u8> {
             put_map(&mut out, &check.map);
             out.extend(check.block.to_le_bytes());
             out.extend(&check.guest);
+        }
+        Question::Job(job) => {
+            out.push(18);
+            put_length4(&mut out, &job.guest);
+            out.push(job.guest.first().copied().unwrap_or(0));
+            out.extend(&job.bytes);
         }
     }
     out

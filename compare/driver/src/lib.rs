@@ -8,6 +8,7 @@ pub mod cli;
 pub mod compare;
 mod decode;
 mod departures;
+mod desk_jobs;
 pub mod domain;
 mod encode;
 pub mod examples;

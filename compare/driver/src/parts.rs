@@ -30,7 +30,8 @@ pub fn parts(question: &Question) -> Vec<Part> {
         | Question::Words(_)
         | Question::PageBuild(_)
         | Question::PageRead(_)
-        | Question::Steps(_) => vec![],
+        | Question::Steps(_)
+        | Question::Job(_) => vec![],
     }
 }
 

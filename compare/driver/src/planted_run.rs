@@ -9,7 +9,7 @@ use second::Rules;
 
 /// Enough random questions for a rare path, after all the exhaustive ones.
 const RANDOM: [u64; Area::COUNT] = [
-    160_000, 80_000, 80_000, 80_000, 40_000, 40_000, 20_000, 20_000, 60_000, 60_000,
+    160_000, 80_000, 80_000, 80_000, 40_000, 40_000, 20_000, 20_000, 60_000, 60_000, 10_000,
 ];
 
 /// Prints for each mistake who noticed it, then the score; answers whether the unedited program noticed them all.

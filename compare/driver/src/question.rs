@@ -146,6 +146,13 @@ impl Steps {
     }
 }
 
+/// A job of the desk program, over guest memory all of whose bytes are one.
+#[derive(Clone, Debug, PartialEq, Eq)]
+pub struct Job {
+    pub guest: Vec<u8>,
+    pub bytes: Vec<u8>,
+}
+
 #[derive(Clone, Debug, PartialEq, Eq)]
 pub enum Question {
     Elf(Load),
@@ -161,6 +168,7 @@ pub enum Question {
     Arm64(Load),
     StartWrite(StartWrite),
     StartCheck(StartCheck),
+    Job(Job),
 }
 
 /// A line to read the words of, and how many places each of the three lists has.
@@ -218,11 +226,12 @@ pub enum Area {
     Steps,
     Arm64,
     Start,
+    Job,
 }
 
 impl Area {
     /// How many there are.
-    pub const COUNT: usize = 10;
+    pub const COUNT: usize = 11;
 
     pub const ALL: [Area; Area::COUNT] = [
         Area::Elf,
@@ -235,6 +244,7 @@ impl Area {
         Area::Steps,
         Area::Arm64,
         Area::Start,
+        Area::Job,
     ];
 
     pub fn name(self) -> &'static str {
@@ -249,6 +259,7 @@ impl Area {
             Area::Steps => "steps",
             Area::Arm64 => "arm64",
             Area::Start => "start",
+            Area::Job => "job",
         }
     }
 
@@ -270,6 +281,7 @@ impl Question {
             Question::Steps(_) => Area::Steps,
             Question::Arm64(_) => Area::Arm64,
             Question::StartWrite(_) | Question::StartCheck(_) => Area::Start,
+            Question::Job(_) => Area::Job,
         }
     }
 
@@ -282,6 +294,7 @@ impl Question {
             Question::Steps(steps) => &steps.guest,
             Question::StartWrite(write) => &write.guest,
             Question::StartCheck(check) => &check.guest,
+            Question::Job(job) => &job.guest,
             Question::Note(_) | Question::Line(_) | Question::Words(_) | Question::PageRead(_) => {
                 &[]
             }
@@ -302,7 +315,8 @@ impl Question {
             | Question::Words(_)
             | Question::PageBuild(_)
             | Question::PageRead(_)
-            | Question::Steps(_) => None,
+            | Question::Steps(_)
+            | Question::Job(_) => None,
         }
     }
 
@@ -328,7 +342,8 @@ impl Question {
             | Question::Words(_)
             | Question::PageBuild(_)
             | Question::PageRead(_)
-            | Question::Steps(_) => {}
+            | Question::Steps(_)
+            | Question::Job(_) => {}
         }
         self
     }

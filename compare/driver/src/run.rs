@@ -303,7 +303,7 @@ mod tests {
         let plan = Plan {
             seed,
             areas: Area::ALL.to_vec(),
-            random: [300, 300, 20, 9000, 300, 300, 40, 50, 30, 300],
+            random: [300, 300, 20, 9000, 300, 300, 40, 50, 30, 300, 40],
             exhaustive: 0,
             threads,
             stop_at_difference: false,
@@ -317,7 +317,10 @@ mod tests {
     #[test]
     fn one_seed_gives_one_result_on_any_number_of_threads() {
         let first = outcome(5, 1);
-        assert_eq!(first.cases, [300, 300, 20, 9000, 300, 300, 40, 50, 30, 300]);
+        assert_eq!(
+            first.cases,
+            [300, 300, 20, 9000, 300, 300, 40, 50, 30, 300, 40]
+        );
         assert_eq!(first.numbers, outcome(5, 3).numbers);
         assert_ne!(first.numbers, outcome(6, 1).numbers);
         assert_eq!(first.over_maps, 100 + 7 + 100 + 10 + 300);

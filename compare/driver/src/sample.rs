@@ -31,6 +31,7 @@ const BUDGET: [(Area, usize); Area::COUNT] = [
     (Area::Words, 30_000),
     (Area::Page, 60_000),
     (Area::Steps, 30_000),
+    (Area::Job, 12_000),
     (Area::Arm64, 24_000),
     (Area::Start, 40_000),
 ];
@@ -219,7 +220,7 @@ mod tests {
             .chain(31..=32)
             .chain(41..=51)
             .chain(61..=64)
-            .chain(71..=77)
+            .chain(70..=77)
             .chain(81..=88)
             .collect();
         assert_eq!(numbers, wanted);

@@ -37,6 +37,11 @@ pub fn show(question: &Question) -> String {
             check.map,
             show_bytes("guest", &check.guest)
         ),
+        Question::Job(job) => format!(
+            "a job over {} bytes of guest memory\n{}",
+            job.guest.len(),
+            show_bytes("job", &job.bytes)
+        ),
     }
 }
 

@@ -15,7 +15,7 @@ fn run_against(program: &str) -> Output {
     let added = [
         "--words", "300", "--page", "300", "--steps", "300", "--arm64", "300",
     ];
-    let last = ["--start", "300"];
+    let last = ["--start", "300", "--job", "300"];
     let alone = ["--exhaustive", "0"];
     let words = [
         &["run", "--probe", program][..],
@@ -37,7 +37,7 @@ fn a_program_that_answers_right_has_no_difference() {
     assert!(output.status.success(), "{said}");
     let last = said.lines().last().unwrap();
     let counts =
-        "elf 300, note 300, bzimage 30, line 300, load 300, words 300, page 300, steps 300, arm64 300, start 300";
+        "elf 300, note 300, bzimage 30, line 300, load 300, words 300, page 300, steps 300, arm64 300, start 300, job 300";
     let wanted = format!(
         "cases: {counts}; probe compared on {counts}; over maps: 610, probe 610; numbers reached:"
     );
@@ -51,7 +51,7 @@ fn a_program_that_says_nothing_differs_everywhere() {
     let said = String::from_utf8(output.stdout).unwrap();
     assert_eq!(output.status.code(), Some(1));
     assert!(said.contains("probe: (the program has ended)"), "{said}");
-    assert!(said.ends_with("unexplained: 2430\n"), "{said}");
+    assert!(said.ends_with("unexplained: 3030\n"), "{said}");
 }
 
 #[test]

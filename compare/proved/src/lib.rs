@@ -19,6 +19,10 @@ impl Backend for Proved {
     }
 
     fn ask(&mut self, question: &Question) -> Reply {
+        if let Question::Job(_) = question {
+            // the library has no job: the desk program is a program
+            return Reply::Outside;
+        }
         let map = question.numbers();
         Reply::Answer(match question {
             Question::Elf(load) => loads::elf(load, &map),
@@ -33,6 +37,7 @@ impl Backend for Proved {
             Question::Arm64(load) => loads::arm64(load, &map),
             Question::StartWrite(write) => starts::write(write),
             Question::StartCheck(check) => starts::check(check),
+            Question::Job(_) => unreachable!("it is outside"),
         })
     }
 }

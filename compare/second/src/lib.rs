@@ -6,6 +6,7 @@
 
 pub mod arm64;
 pub mod bzimage;
+pub mod desk;
 pub mod device;
 pub mod elf;
 pub mod fields;

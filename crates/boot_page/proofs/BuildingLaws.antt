@@ -22,15 +22,6 @@ use Rattle.boot_page.specs.declared.Addresses.{Addresses}
 use Rattle.boot_page.specs.Places.{pageSize, headerAt, loaderTypeAt, undefinedLoader}
 use Rattle.boot_page.specs.Building.{tests, putParts, headerParts, addressParts, mapParts, filled, pageOf, Builds}
 
--- ---- zeros, stored one after the other
-
--- one more zero
-pub zeros-next : (l : List ℕ) (i : ℕ) {n m : ℕ} → m ≡ suc n → sets (set l i 0) (suc i) (replicate n 0) ≡ sets l i (replicate m 0)
-zeros-next l i e = rw e
-
-pub zeros-done : (l : List ℕ) (i : ℕ) {n : ℕ} → n ≡ 0 → sets l i (replicate n 0) ≡ l
-zeros-done l i e = rw e
-
 -- ---- parts, as the code puts them
 
 -- as many bytes as the header has, and no more than it may have

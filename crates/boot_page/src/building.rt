@@ -1,6 +1,6 @@
 // The tests of a page that is to be built, and what is written into it.
 ghost use mathlib.Core.Path.{_≡_};
-ghost use lib.ListN.{length, replicate};
+ghost use lib.ListN.{length};
 ghost use Rattle.answers.specs.Tests.{askedAll};
 ghost use Rattle.answers.specs.declared.Gate.the-variants.{Open};
 ghost use Rattle.boot_page.specs.Building.{sizeTests, tests, putParts, headerParts, addressParts, mapParts, filled};
@@ -33,17 +33,6 @@ pub(crate) fn ask(page_len: usize, list: &[u64]) -> Gate
     gate
 }
 
-// Sets every byte to 0.
-fn clear(page: &mut [u8])
-    ensures { λ _. ⌜ now (page .exit) ≡ replicate (length (now (page .entry))) 0 ⌝ }
-{
-    let mut i = 0;
-    while i < page.len() {
-        page[i] = 0;
-        i += 1;
-    }
-}
-
 // The setup header, as far as its 123 bytes go, and the loader type over it.
 fn put_header(page: &mut [u8], setup_header: &[u8])
     ensures { λ _. ⌜ now (page .exit) ≡ putParts (headerParts (now («setup_header» .entry))) (now (page .entry)) ⌝ }
@@ -74,7 +63,7 @@ fn put_map(page: &mut [u8], list: &[u64])
 pub(crate) fn fill(page: &mut [u8], setup_header: &[u8], addresses: Addresses, list: &[u64])
     ensures { λ _. ⌜ now (page .exit) ≡ filled (now («setup_header» .entry)) addresses (now (list .entry)) (length (now (page .entry))) ⌝ }
 {
-    clear(page);
+    copying::clear(page);
     put_header(page, setup_header);
     put_addresses(page, addresses);
     put_map(page, list);

@@ -44,6 +44,8 @@ use Rattle.cmdline.proofs.writing.as_cstring.Kinds as writing-as-cstrin
 use Rattle.cmdline.proofs.writing.as_cstring.Reads as writing-as-cstring-reads
 use Rattle.cmdline.proofs.writing.same_line.Kinds as writing-same-line-kinds
 use Rattle.cmdline.proofs.writing.same_line.Reads as writing-same-line-reads
+use Rattle.cmdline.proofs.digits.put_decimal.Kinds as digits-put-decimal-kinds
+use Rattle.cmdline.proofs.digits.put_decimal.Reads as digits-put-decimal-reads
 
 -- a tuple whose second part alone can differ
 second : {A B : Type 0} {u : A} {x y : B} → x ≡ y → _≡_ {A = A × B} (u, x) (u, y)
@@ -113,3 +115,6 @@ writing-as-cstring-one κs a z z' ws ws' p q = (meet (p .answer) (q .answer), fi
 
 pub writing-same-line-one : OneOutcome 4 writing-same-line-kinds.ps writing-same-line-kinds.r writing-same-line-reads.Post
 writing-same-line-one κs a z z' ws ws' p q = (meet p q, refl)
+
+pub digits-put-decimal-one : OneOutcome 1 digits-put-decimal-kinds.ps digits-put-decimal-kinds.r digits-put-decimal-reads.Post
+digits-put-decimal-one κs a z z' ws ws' p q = (meet (p .place) (q .place), first (meet (p .bytes) (q .bytes)))

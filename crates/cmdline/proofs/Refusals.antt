@@ -46,11 +46,11 @@ use Rattle.cmdline.proofs.writing.as_cstring.Reads as texts-reads
 
 -- ---- an answer, by how the tests end
 
-answered-open : (g : Gate) → answerOf g ≡ Accepted → g ≡ Open
+pub answered-open : (g : Gate) → answerOf g ≡ Accepted → g ≡ Open
 answered-open Open e = refl
 answered-open (Shut r) e = let w : _≡_ {A = ℕ} 0 1 = cc in absurd (omega arith)
 
-answered-shut : (g : Gate) {refusal : Refusal} → answerOf g ≡ Refused refusal → g ≡ Shut refusal
+pub answered-shut : (g : Gate) {refusal : Refusal} → answerOf g ≡ Refused refusal → g ≡ Shut refusal
 answered-shut Open e = let w : _≡_ {A = ℕ} 0 1 = cc in absurd (omega arith)
 answered-shut (Shut first) {refusal} e = let is : _≡_ {A = Refusal} first refusal = cc in ap Shut is
 

@@ -2,7 +2,7 @@
 ghost use mathlib.Core.Path.{_≡_};
 ghost use Prim.Native.Nat.{_≤_, _<_, _^_};
 ghost use lib.ListN.{length, drop};
-ghost use Rattle.cmdline.specs.Digits.{digit, digits};
+ghost use Rattle.cmdline.specs.Digits.{digit, digits, decimal};
 ghost use Rattle.slugs.specs.Stored.{Stored};
 use slugs::buffers;
 
@@ -41,4 +41,11 @@ pub(crate) fn put_number(d: &mut [u8], at: usize, base: u64, n: u64) -> usize
     let mut spelled = [0u8; 20];
     let from = spell(&mut spelled, base, n);
     buffers::put(d, at, &spelled[from..])
+}
+
+// The decimal digits of n, put from a place on; the place after them.
+pub fn put_decimal(d: &mut [u8], at: usize, n: u64) -> usize
+    ensures { λ r. ⌜ Stored (now (d .entry)) at (decimal n) (now (d .exit)) r ⌝ }
+{
+    put_number(d, at, 10, n)
 }

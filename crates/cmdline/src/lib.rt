@@ -24,7 +24,7 @@ use slugs::splitting;
 use slugs::trimming;
 
 mod device;
-mod digits;
+pub mod digits;
 pub mod in_place;
 pub mod sizes;
 pub mod writing;

@@ -4,7 +4,7 @@ use mathlib.Core.Path.{_≡_, refl, sym, ap, _∙_}
 use mathlib.Core.List.{List, [], _∷_, _++_}
 use native.Mathlib.Omega.{arith}
 use native.Mathlib.Decide.{decLe}
-use lib.ListN.{length, set, getD, drop, length-set, drop-of-length-le}
+use lib.ListN.{length, set, getD, drop, replicate, length-set, drop-of-length-le}
 use lib.Seq.{sets, set-out, drop-cons, getD-set-other}
 
 -- stores past the end change nothing
@@ -84,3 +84,12 @@ stored-done vs l at p i e h = split (decLe (length vs) i)
     split : Dec (length vs ≤ i) → sets l p (drop i vs) ≡ l
     split (yes q) = rw (drop-of-length-le vs q)
     split (no n) = sets-out (drop i vs) l p (omega arith)
+
+-- ---- zeros, stored one after the other
+
+-- one more zero
+pub zeros-next : (l : List ℕ) (i : ℕ) {n m : ℕ} → m ≡ suc n → sets (set l i 0) (suc i) (replicate n 0) ≡ sets l i (replicate m 0)
+zeros-next l i e = rw e
+
+pub zeros-done : (l : List ℕ) (i : ℕ) {n : ℕ} → n ≡ 0 → sets l i (replicate n 0) ≡ l
+zeros-done l i e = rw e

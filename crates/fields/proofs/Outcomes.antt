@@ -46,6 +46,8 @@ use Rattle.fields.proofs.rows.field_width.Kinds as field-width-kinds
 use Rattle.fields.proofs.rows.field_width.Reads as field-width-reads
 use Rattle.fields.proofs.copying.put.Kinds as put-kinds
 use Rattle.fields.proofs.copying.put.Reads as put-reads
+use Rattle.fields.proofs.copying.clear.Kinds as clear-kinds
+use Rattle.fields.proofs.copying.clear.Reads as clear-reads
 
 pub wide-one : OneOutcome 0 wide-kinds.ps wide-kinds.r wide-reads.Post
 wide-one κs a z z' ws ws' p q = (meet p q, refl)
@@ -112,3 +114,6 @@ put-one κs a z z' ws ws' p q = (refl, first (meet p q))
 
 pub field-width-one : OneOutcome 1 field-width-kinds.ps field-width-kinds.r field-width-reads.Post
 field-width-one κs a z z' ws ws' p q = (meet p q, refl)
+
+pub clear-one : OneOutcome 1 clear-kinds.ps clear-kinds.r clear-reads.Post
+clear-one κs a z z' ws ws' p q = (refl, first (meet p q))

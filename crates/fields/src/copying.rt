@@ -1,6 +1,7 @@
-// The copy of one slice to the front of another.
+// One slice copied to the front of another or stored in it, and a slice of zeros.
 ghost use mathlib.Core.Path.{_≡_};
 ghost use Prim.Native.Nat.{min};
+ghost use lib.ListN.{length, replicate};
 ghost use lib.Seq.{sets};
 use crate::ranges;
 
@@ -33,5 +34,16 @@ pub fn put(dst: &mut [u8], at: u64, src: &[u8])
         dst[p as usize] = src[i];
         p += 1;
         i += 1;
+    }
+}
+
+// Sets every byte to 0.
+pub fn clear(dst: &mut [u8])
+    ensures { λ _. ⌜ now (dst .exit) ≡ replicate (length (now (dst .entry))) 0 ⌝ }
+{
+    let mut at = 0;
+    while at < dst.len() {
+        dst[at] = 0;
+        at += 1;
     }
 }

@@ -38,7 +38,7 @@ part-poured a g vs {ys} h e =
 -- ---- as far as the image and memory go
 
 -- clipped to the length, a count and a place take the same
-take-clipped : (n : ℕ) (l : List ℕ) {k : ℕ} → k ≡ min n (length l) → take k l ≡ take n l
+pub take-clipped : (n : ℕ) (l : List ℕ) {k : ℕ} → k ≡ min n (length l) → take k l ≡ take n l
 take-clipped n l {k} e = split (decLe n (length l))
   where
     split : Dec (n ≤ length l) → take k l ≡ take n l

@@ -3,6 +3,7 @@ use fields::copying;
 use fields::numbers;
 use libc::STDIN_FILENO;
 
+mod jobs;
 mod line_words;
 mod lines;
 mod loads;
@@ -40,6 +41,7 @@ fn answer(body: &[u8], guest: &mut [u8]) {
         12 => starts::write(body, guest),
         13 => starts::check(body, guest.len()),
         14 | 15 | 17 => portions::steps(body, guest),
+        18 => jobs::answer(body, guest),
         _ => telling::malformed(b"no such kind"),
     }
 }

@@ -15,7 +15,7 @@ const MOST_NUMBERS: usize = 400;
 const LONGEST: usize = 65536;
 
 // Sets every byte.
-fn fill(page: &mut [u8], byte: u8) {
+pub fn fill(page: &mut [u8], byte: u8) {
     let mut i = 0;
     while i < page.len() {
         page[i] = byte;
@@ -24,7 +24,7 @@ fn fill(page: &mut [u8], byte: u8) {
 }
 
 // The byte that a page is filled with.
-fn filling(body: &[u8]) -> u8 {
+pub fn filling(body: &[u8]) -> u8 {
     if body.len() < 6 {
         return 0;
     }

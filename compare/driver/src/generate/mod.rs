@@ -5,6 +5,7 @@ mod bzimage;
 mod elf;
 mod exhaustive;
 mod headers;
+pub mod job;
 mod line;
 mod load;
 mod maps;
@@ -32,6 +33,7 @@ pub fn random(area: Area, rng: &mut Rng) -> Question {
         Area::Words => Question::Words(words::question(rng)),
         Area::Page => page::question(rng),
         Area::Steps => Question::Steps(steps::question(rng)),
+        Area::Job => Question::Job(job::question(rng)),
         Area::Arm64 => Question::Arm64(arm64::question(rng)),
         Area::Start => start::question(rng),
     }

@@ -72,7 +72,7 @@ fn good_arm64(rng: &mut Rng) -> Load {
 }
 
 /// Up to five segments, nearly all of which have room.
-fn good_elf(rng: &mut Rng) -> Load {
+pub fn good_elf(rng: &mut Rng) -> Load {
     let guest = rng.length(8, 48) as u64;
     let body = rng.bytes(12);
     let header = |rng: &mut Rng| {
@@ -101,7 +101,7 @@ fn good_elf(rng: &mut Rng) -> Load {
 }
 
 /// A kernel of a few bytes, which mostly has room.
-fn good_bzimage(rng: &mut Rng) -> Load {
+pub fn good_bzimage(rng: &mut Rng) -> Load {
     let mut load = examples::small_bzimage();
     let kernel = rng.length(0, 12);
     load.image.truncate(1024);

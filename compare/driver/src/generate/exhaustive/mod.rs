@@ -3,6 +3,7 @@
 
 mod arm64;
 mod image;
+mod job;
 mod line;
 mod maps;
 mod note;
@@ -32,6 +33,7 @@ fn over_whole_slices(area: Area) -> Box<dyn Iterator<Item = Question>> {
         Area::Words => Box::new(words::words().map(Question::Words)),
         Area::Page => Box::new(page::page()),
         Area::Steps => Box::new(steps::steps().map(Question::Steps)),
+        Area::Job => Box::new(job::jobs().map(Question::Job)),
         Area::Arm64 => Box::new(arm64::arm64().map(Question::Arm64)),
         Area::Start => Box::new(start::start()),
     }

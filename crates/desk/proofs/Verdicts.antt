@@ -1,0 +1,75 @@
+-- When a job is good, and what a job prints that is not: the one refusal, before anything else is asked.
+use Prim.Native.Nat.{ℕ, _+_, _*_, _≤_}
+use mathlib.Core.Path.{_≡_, sym, ap, _∙_}
+use mathlib.Core.Bool.{true, _&&_}
+use mathlib.Core.Logic.{_⊎_, inl, inr}
+use mathlib.Core.List.{List}
+use native.Mathlib.Omega.{arith}
+use lib.Dec.{eqb}
+use lib.ListN.{length}
+use borrow.Author.Tests.{eqb-true}
+use Rattle.answers.specs.Tests.{AllHold, FirstFails, here, later}
+use Rattle.answers.specs.declared.Refusal.{Refusal}
+use Rattle.answers.specs.declared.Refusal.the-variants.{BadJob}
+use Rattle.answers.proofs.BoolLaws.{both-held, one-held}
+use Rattle.guest.specs.Loading.{Plan}
+use Rattle.guest.specs.Room.{wholeOf}
+use Rattle.guest.proofs.LoadingLaws.{first-planned, all-planned}
+use Rattle.desk.specs.declared.table.Row.{Row}
+use Rattle.desk.specs.declared.Said.{Said}
+use Rattle.desk.specs.declared.Said.the-variants.{Refused}
+use Rattle.desk.specs.Table.{countOf, countGood, rowOf, firstRow, secondRow, onePlaced, twoPlaced, placesGood, jobTests}
+use Rattle.desk.specs.Work.{bodiesPlan, jobPlan}
+use Rattle.desk.specs.Printing.{refusedWord, numberLine, saidText, printed}
+use Rattle.desk.proofs.TableLaws.{places-one, places-two}
+
+-- whichever rule is broken, the refusal is the same
+only-bad-job : {refusal : Refusal} (job : List ℕ) → FirstFails refusal (jobTests job) → refusal ≡ BadJob
+only-bad-job job (here f e) = sym e
+only-bad-job job (later t (here f e)) = sym e
+only-bad-job job (later t (later t' (here f e))) = sym e
+only-bad-job job (later t (later t' (later t'' (here f e)))) = sym e
+
+-- a job that breaks a rule prints `refused 70`, whatever its image and its line are
+pub bad-prints : (job : List ℕ) (size : ℕ) {refusal : Refusal} → FirstFails refusal (jobTests job) → printed job size ≡ numberLine refusedWord 70
+unfolding jobPlan saidText
+bad-prints job size f =
+    ap (λ (p : Plan Said). saidText (p .answer)) (first-planned Refused (jobTests job) (bodiesPlan job (wholeOf size)) f)
+    ∙ ap (λ (r : Refusal). saidText (Refused r)) (only-bad-job job f)
+
+-- a job that breaks none prints what its bodies give
+pub good-prints : (job : List ℕ) (size : ℕ) → AllHold (jobTests job) → printed job size ≡ saidText (bodiesPlan job (wholeOf size) .answer)
+unfolding jobPlan
+good-prints job size h = ap (λ (p : Plan Said). saidText (p .answer)) (all-planned Refused (jobTests job) (bodiesPlan job (wholeOf size)) h)
+
+-- ---- the table of a good job lies in it
+
+one-long : (a : Row) (len : ℕ) → onePlaced a len ≡ true → 16 ≤ len
+unfolding onePlaced
+one-long a len e = let size = eqb-true (16 + a .size) len (both-held (eqb (a .place) 16) (eqb (16 + a .size) len) e .1) in omega arith
+
+two-long : (a b : Row) (len : ℕ) → twoPlaced a b len ≡ true → 28 ≤ len
+unfolding twoPlaced
+two-long a b len e =
+    let end = eqb (28 + a .size + b .size) len in
+    let rest = both-held (eqb (a .place) 28) (eqb (b .place) (28 + a .size) && end) e .1 in
+    let size = eqb-true (28 + a .size + b .size) len (both-held (eqb (b .place) (28 + a .size)) end rest .1) in
+    omega arith
+
+pub table-inside : (job : List ℕ) → AllHold (jobTests job) → 4 + 12 * countOf job ≤ length job
+unfolding countGood
+table-inside job h = by (one-held (eqb (countOf job) 1) (eqb (countOf job) 2) (h .1 .0))
+  where
+    places : placesGood (countOf job) (rowOf job firstRow) (rowOf job secondRow) (length job) ≡ true
+    places = h .1 .1 .1 .0
+
+    by : (eqb (countOf job) 1 ≡ true) ⊎ (eqb (countOf job) 2 ≡ true) → 4 + 12 * countOf job ≤ length job
+    by (inl e) =
+        let one = eqb-true (countOf job) 1 e in
+        let long = one-long (rowOf job firstRow) (length job) (sym (places-one (rowOf job firstRow) (rowOf job secondRow) (length job) (countOf job) one) ∙ places) in
+        omega arith
+    by (inr e) =
+        let two = eqb-true (countOf job) 2 e in
+        let other : countOf job ≡ 1 → ⊥ = λ one. let both : _≡_ {A = ℕ} 1 2 = sym one ∙ two in absurd (omega arith) in
+        let long = two-long (rowOf job firstRow) (rowOf job secondRow) (length job) (sym (places-two (rowOf job firstRow) (rowOf job secondRow) (length job) (countOf job) other) ∙ places) in
+        omega arith
