@@ -198,9 +198,9 @@ static inline const char *rekusoyen_answer_sentence(uint32_t answer)
 }
 
 /*
- * The stack that a call uses at the most, beside what memcpy and memset themselves use: a load of an image, a note walk, a boot page or a
- * start block, a step of a load, and a call on a line. Measured on x86-64, a load of an image or of a line, which keep the map there, uses less than
- * 1,408 bytes, a step, which hands its state on there, less than 4,096, and every other call less than 640; the calls
+ * The stack that a call uses at the most, beside what memcpy and memset themselves use: a load of an image, its plan or a part of it, a note walk, a boot page
+ * or a start block, a step of a load, and a call on a line. Measured on x86-64, a load of an image or of a line and its plan, which keep the map there, use
+ * less than 1,408 bytes, a step, which hands its state on there, less than 4,096, and every other call less than 640; the calls
  * on a start block, which keep the map there too, were measured on Arm alone, and use less than 2,048.
  */
 #define REKUSOYEN_LOAD_STACK_SIZE ((size_t)2048)
@@ -504,6 +504,105 @@ uint32_t rekusoyen_arm64_step(
     const uint8_t *image, size_t image_len,
     uint64_t *state, size_t state_len,
     uint64_t budget,
+    uint64_t *out, size_t out_len);
+
+/* ---- plans and parts */
+
+/*
+ * The plan of a load: what the load would answer, and which image bytes it would copy to which guest addresses. No guest memory is lent, only its
+ * size and its map: a program whose guest memory is no slice, or whose image is not in memory, copies the parts by itself. Copied one after the other,
+ * in the order of their numbers, the parts of an accepted load leave guest memory as the load leaves it. Every part lies in the image, and in
+ * one range of guest memory. A refused load copies nothing.
+ *
+ *   memory_size  how many bytes guest memory has; of memory in regions, the end of the last one
+ *   map          its ranges
+ *   image        the whole file, or as many bytes, of which these alone are looked at, as far as the image goes:
+ *                  - of an ELF image 0 to 63; the program headers, e_phnum times 56 bytes from e_phoff on; and, where no offset is given, of each program
+ *                    header of type 4 with p_filesz above 0 the p_filesz + 19 bytes from p_offset on. A note begins within its p_filesz bytes, and of
+ *                    a note 20 bytes are looked at: its header, its name and the first 4 bytes of its descriptor
+ *                  - of a bzImage 1F1 hex to 26B hex, the setup header
+ *                  - of an arm64 Image 0 to 63
+ *                All others may have any value: two images of one length with the same bytes at these places have the same plan
+ *
+ * A part is three numbers: its guest address, its place in the image, and its size; all 0 where it has no bytes.
+ */
+#define REKUSOYEN_ELF_PLAN_OUT 7
+#define REKUSOYEN_ELF_PART_OUT 3
+#define REKUSOYEN_BZIMAGE_PLAN_OUT 5
+#define REKUSOYEN_ARM64_PLAN_OUT 5
+
+/*
+ * The plan of a load of an ELF image.
+ *
+ *   flags, offset, highmem  those of rekusoyen_elf_load
+ *   out                     REKUSOYEN_ELF_PLAN_OUT places: the six values of rekusoyen_elf_load, and the number of parts, one for each program header
+ *
+ * Refusals: NO_ROOM where out_len is not REKUSOYEN_ELF_PLAN_OUT; then all of rekusoyen_elf_load from SLICE_TOO_LONG on, with memory_size in place of
+ * guest_len.
+ *
+ * Leaves, accepted: in out the seven values. Leaves, refused: out as it was.
+ */
+uint32_t rekusoyen_elf_plan(
+    uint64_t memory_size,
+    const uint64_t *map, size_t map_len,
+    const uint8_t *image, size_t image_len,
+    uint32_t flags, uint64_t offset, uint64_t highmem,
+    uint64_t *out, size_t out_len);
+
+/*
+ * A part of that load, by its number: that of program header `index`, in file order. Whether the load is accepted is the plan's to say: highmem is not
+ * asked here, and a refused load has parts that are told but not copied.
+ *
+ *   out  REKUSOYEN_ELF_PART_OUT places: the part; all 0 from the number of parts on, too
+ *
+ * Refusals:
+ *   NO_ROOM  out_len is not REKUSOYEN_ELF_PART_OUT
+ *
+ * Leaves, accepted: in out the three values. Leaves, refused: out as it was.
+ */
+uint32_t rekusoyen_elf_part(
+    uint64_t memory_size,
+    const uint64_t *map, size_t map_len,
+    const uint8_t *image, size_t image_len,
+    uint32_t flags, uint64_t offset, uint64_t index,
+    uint64_t *out, size_t out_len);
+
+/*
+ * The plan of a load of a bzImage, and its one part.
+ *
+ *   flags, offset, highmem  those of rekusoyen_bzimage_load
+ *   out                     REKUSOYEN_BZIMAGE_PLAN_OUT places: the two values of rekusoyen_bzimage_load, and the part, the kernel
+ *   header                  REKUSOYEN_SETUP_HEADER_SIZE bytes: the setup header, as rekusoyen_bzimage_load leaves it
+ *
+ * Refusals: NO_ROOM where out_len is not REKUSOYEN_BZIMAGE_PLAN_OUT or header_len is not REKUSOYEN_SETUP_HEADER_SIZE; then all of rekusoyen_bzimage_load
+ * from SLICE_TOO_LONG on, with memory_size in place of guest_len.
+ *
+ * Leaves, accepted: in out the five values, and in header the setup header. Leaves, refused: out and header as they were.
+ */
+uint32_t rekusoyen_bzimage_plan(
+    uint64_t memory_size,
+    const uint64_t *map, size_t map_len,
+    const uint8_t *image, size_t image_len,
+    uint32_t flags, uint64_t offset, uint64_t highmem,
+    uint64_t *out, size_t out_len,
+    uint8_t *header, size_t header_len);
+
+/*
+ * The plan of a load of an arm64 Image, and its one part.
+ *
+ *   base  that of rekusoyen_arm64_load
+ *   out   REKUSOYEN_ARM64_PLAN_OUT places: the two values of rekusoyen_arm64_load, and the part, the whole file
+ *
+ * Refusals: NO_ROOM where out_len is not REKUSOYEN_ARM64_PLAN_OUT; then all of rekusoyen_arm64_load from SLICE_TOO_LONG on, with memory_size in place of
+ * guest_len.
+ *
+ * Leaves, accepted: in out the five values. Leaves, refused: out as it was.
+ */
+uint32_t rekusoyen_arm64_plan(
+    uint64_t memory_size,
+    const uint64_t *map, size_t map_len,
+    const uint8_t *image, size_t image_len,
+    uint64_t base,
     uint64_t *out, size_t out_len);
 
 /* ---- the boot page */
@@ -869,6 +968,22 @@ uint32_t rekusoyen_line_equal(
  */
 uint32_t rekusoyen_line_load(
     uint8_t *guest, size_t guest_len,
+    const uint64_t *map, size_t map_len,
+    uint64_t address,
+    const uint8_t *line, size_t line_len);
+
+/*
+ * What rekusoyen_line_load would answer over guest memory of this size with this map. Nothing is written, and no guest memory is lent.
+ *
+ *   memory_size  how many bytes guest memory has; of memory in regions, the end of the last one
+ *   map          its ranges
+ *   address      where the text would begin
+ *   line         a line
+ *
+ * Refusals: those of rekusoyen_line_load, with memory_size in place of guest_len.
+ */
+uint32_t rekusoyen_line_plan(
+    uint64_t memory_size,
     const uint64_t *map, size_t map_len,
     uint64_t address,
     const uint8_t *line, size_t line_len);

@@ -24,6 +24,7 @@ int main(int count, char **words)
     test_line_output();
     test_maps();
     test_steps();
+    test_plans();
     test_line_words();
     test_long_slices();
     test_empty_slices();

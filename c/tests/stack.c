@@ -20,7 +20,7 @@
 
 static uint8_t line[REKUSOYEN_LINE_SIZE], other_line[REKUSOYEN_LINE_SIZE];
 static uint8_t guest[64], setup_header[REKUSOYEN_SETUP_HEADER_SIZE];
-static uint64_t out[REKUSOYEN_ELF_LOAD_OUT], rows[REKUSOYEN_PAGE_READ_ROWS];
+static uint64_t out[REKUSOYEN_ELF_LOAD_OUT], plan_out[REKUSOYEN_ELF_PLAN_OUT], rows[REKUSOYEN_PAGE_READ_ROWS];
 static uint64_t state[REKUSOYEN_ELF_STATE], step_out[REKUSOYEN_ELF_STEP_OUT];
 static uint8_t page[REKUSOYEN_PAGE_SIZE];
 static struct image elf, bzimage, arm64;
@@ -87,6 +87,29 @@ static uint32_t arm64_step(void)
     return rekusoyen_arm64_step(
         arm64_guest, sizeof arm64_guest, arm64_ranges, RANGES, arm64.bytes, arm64.size, arm64_state, REKUSOYEN_ARM64_STATE, 8, step_out,
         REKUSOYEN_ARM64_STEP_OUT);
+}
+
+static uint32_t elf_plan(void)
+{
+    return rekusoyen_elf_plan(sizeof guest, ranges, RANGES, elf.bytes, elf.size, 0, 0, 0, plan_out, REKUSOYEN_ELF_PLAN_OUT);
+}
+
+static uint32_t elf_part(void)
+{
+    return rekusoyen_elf_part(sizeof guest, ranges, RANGES, elf.bytes, elf.size, 0, 0, 0, plan_out, REKUSOYEN_ELF_PART_OUT);
+}
+
+static uint32_t bzimage_plan(void)
+{
+    return rekusoyen_bzimage_plan(
+        sizeof guest, ranges, RANGES, bzimage.bytes, bzimage.size, 0, 0, 0, plan_out, REKUSOYEN_BZIMAGE_PLAN_OUT,
+        setup_header, sizeof setup_header);
+}
+
+static uint32_t arm64_plan(void)
+{
+    return rekusoyen_arm64_plan(
+        sizeof arm64_guest, arm64_ranges, RANGES, arm64.bytes, arm64.size, 0, plan_out, REKUSOYEN_ARM64_PLAN_OUT);
 }
 
 static uint32_t page_build(void)
@@ -163,6 +186,11 @@ static uint32_t line_load(void)
 }
 
 /* A line of one word that is quotes alone: the reader of plain text and that of quoted text hand over at each. */
+static uint32_t line_plan(void)
+{
+    return rekusoyen_line_plan(sizeof guest, ranges, RANGES, 16, other_line, sizeof other_line);
+}
+
 static uint32_t line_words(void)
 {
     return rekusoyen_line_words(
@@ -181,6 +209,10 @@ static const struct {
     {"rekusoyen_bzimage_load", bzimage_load, REKUSOYEN_LOAD_STACK_SIZE},
     {"rekusoyen_arm64_load", arm64_load, REKUSOYEN_LOAD_STACK_SIZE},
     {"rekusoyen_arm64_step", arm64_step, REKUSOYEN_STEP_STACK_SIZE},
+    {"rekusoyen_elf_plan", elf_plan, REKUSOYEN_LOAD_STACK_SIZE},
+    {"rekusoyen_elf_part", elf_part, REKUSOYEN_LOAD_STACK_SIZE},
+    {"rekusoyen_bzimage_plan", bzimage_plan, REKUSOYEN_LOAD_STACK_SIZE},
+    {"rekusoyen_arm64_plan", arm64_plan, REKUSOYEN_LOAD_STACK_SIZE},
     {"rekusoyen_page_build", page_build, REKUSOYEN_LOAD_STACK_SIZE},
     {"rekusoyen_page_read", page_read, REKUSOYEN_LOAD_STACK_SIZE},
     {"rekusoyen_start_write", start_write, REKUSOYEN_LOAD_STACK_SIZE},
@@ -195,6 +227,7 @@ static const struct {
     {"rekusoyen_line_as_cstring", line_as_cstring, REKUSOYEN_LINE_STACK_SIZE},
     {"rekusoyen_line_equal", line_equal, REKUSOYEN_LINE_STACK_SIZE},
     {"rekusoyen_line_load", line_load, REKUSOYEN_LINE_STACK_SIZE},
+    {"rekusoyen_line_plan", line_plan, REKUSOYEN_LINE_STACK_SIZE},
     {"rekusoyen_line_words", line_words, REKUSOYEN_LINE_STACK_SIZE},
 };
 

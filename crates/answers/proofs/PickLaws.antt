@@ -10,6 +10,12 @@ unfolding pick
 pick-with P true f g = f refl
 pick-with P false f g = g refl
 
+-- what holds between the sides of a test in two rows holds between what it picks of them
+pub pick-both : {A : Type 0} (R : A → A → Type 0) (b : Bool) {x x' y y' : A} → (b ≡ true → R x x') → (b ≡ false → R y y') → R (pick b x y) (pick b x' y')
+unfolding pick
+pick-both R true f g = f refl
+pick-both R false f g = g refl
+
 -- what `if !f(..)` says of the test b that f answers
 pub failed : {t b : Bool} → t ≡ b → not t ≡ true → b ≡ false
 failed {t} e h = sym e ∙ not-true t h

@@ -63,7 +63,7 @@ module _ (image : List ℕ) (m : Memory) (base : ℕ) where
       ∙ sym (ap (λ (p : Plan Answer). p .stream) (loaded-plan image m base e))
   whole-by (Refused r) e = sym (ap (λ (p : Plan Answer). p .stream) (refused-plan image m base e))
 
-  whole-is : wholeOf (courseOf image m base) image ≡ planOf image m base .stream
+  pub whole-is : wholeOf (courseOf image m base) image ≡ planOf image m base .stream
   whole-is = whole-by (planOf image m base .answer) refl
 
 -- ---- a run from a load that is not begun, over one image and one memory

@@ -6,4 +6,6 @@ pub mod HolesUntouched
 pub mod WholeSlice
 pub mod StepsLaws
 pub mod InSteps
+pub mod Parted
+pub mod Footprint
 pub mod Outcomes

@@ -4,6 +4,10 @@ use Rattle.answers.specs.Outcome.{OneOutcome}
 use Rattle.answers.proofs.Outcomes.{meet, first}
 use Rattle.arm64.proofs.load.Kinds as load-kinds
 use Rattle.arm64.proofs.load.Reads as load-reads
+use Rattle.arm64.proofs.parts.plan.Kinds as parts-plan-kinds
+use Rattle.arm64.proofs.parts.plan.Reads as parts-plan-reads
+use Rattle.arm64.proofs.parts.part.Kinds as parts-part-kinds
+use Rattle.arm64.proofs.parts.part.Reads as parts-part-reads
 use Rattle.arm64.proofs.steps.begin.Kinds as steps-begin-kinds
 use Rattle.arm64.proofs.steps.begin.Reads as steps-begin-reads
 use Rattle.arm64.proofs.steps.step.Kinds as steps-step-kinds
@@ -17,3 +21,9 @@ steps-begin-one κs a z z' ws ws' p q = (meet p q, refl)
 
 pub steps-step-one : OneOutcome 2 steps-step-kinds.ps steps-step-kinds.r steps-step-reads.Post
 steps-step-one κs a z z' ws ws' p q = (meet (p .answer) (q .answer), first (meet (p .memory) (q .memory)))
+
+pub parts-plan-one : OneOutcome 1 parts-plan-kinds.ps parts-plan-kinds.r parts-plan-reads.Post
+parts-plan-one κs a z z' ws ws' p q = (meet p q, refl)
+
+pub parts-part-one : OneOutcome 1 parts-part-kinds.ps parts-part-kinds.r parts-part-reads.Post
+parts-part-one κs a z z' ws ws' p q = (meet p q, refl)

@@ -3,3 +3,4 @@ pub mod Plan
 pub mod Answers
 pub mod WholeSlice
 pub mod Steps
+pub mod Footprint

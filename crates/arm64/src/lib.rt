@@ -7,6 +7,7 @@ use guest::Map;
 use guest::Memory;
 use guest::copying;
 
+pub mod parts;
 mod plan;
 pub mod steps;
 

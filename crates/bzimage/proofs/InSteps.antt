@@ -84,7 +84,7 @@ module _ (image : List ℕ) (m : Memory) (offset highmem : Given) where
       ∙ sym (ap (λ (p : Plan Outcome). p .stream) (loaded-plan image m offset highmem e))
   whole-by (Refused r) e = sym (ap (λ (p : Plan Outcome). p .stream) (refused-plan image m offset highmem e))
 
-  whole-is : wholeOf (courseOf image m offset highmem) image ≡ planOf image m offset highmem .stream
+  pub whole-is : wholeOf (courseOf image m offset highmem) image ≡ planOf image m offset highmem .stream
   whole-is = whole-by (planOf image m offset highmem .answer .answer) refl
 
 -- ---- a run from a load that is not begun, over one image and one memory

@@ -8,6 +8,8 @@ pub mod HolesUntouched
 pub mod WholeSlice
 pub mod Refusals
 pub mod Returned
+pub mod Parted
+pub mod Footprint
 pub mod Outcomes
 pub mod EmptyKernel
 pub mod StepsLaws

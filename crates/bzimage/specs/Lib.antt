@@ -7,3 +7,4 @@ pub mod Returned
 pub mod Answers
 pub mod WholeSlice
 pub mod Steps
+pub mod Footprint

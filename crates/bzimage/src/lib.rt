@@ -19,6 +19,7 @@ use guest::copying;
 
 mod header;
 mod kernel;
+pub mod parts;
 mod plan;
 pub mod setup_header;
 pub mod steps;

@@ -3,7 +3,7 @@ ghost use mathlib.Core.Path.{_≡_};
 ghost use Rattle.guest.specs.Loading.{Loads};
 ghost use Rattle.guest.specs.Parts.{portionOf};
 ghost use Rattle.guest.specs.Steps.{firstStep, goOn};
-ghost use Rattle.bzimage.specs.Steps.{kernelPart, partOf, isLoaded, courseOf, heldOf, replyAfter, freshState, stayed, planFrom, StepSays};
+ghost use Rattle.bzimage.specs.Steps.{isLoaded, courseOf, heldOf, replyAfter, freshState, stayed, planFrom, StepSays};
 use crate::Answer;
 use crate::Outcome;
 use crate::kernel;
@@ -11,13 +11,10 @@ use crate::plan;
 use answers::Gate;
 use answers::Refusal;
 use guest::Given;
-use guest::ImagePlace;
 use guest::Map;
 use guest::Memory;
-use guest::Part;
 use guest::Progress;
 use guest::Stage;
-use guest::addresses;
 use guest::parts;
 use guest::steps;
 
@@ -82,17 +79,6 @@ fn reply_after(all: bool) -> Reply
     if all { Reply::Answered } else { Reply::More }
 }
 
-// The kernel, as a part of the image.
-fn kernel_part(image: &[u8], offset: Given) -> Part
-    ensures { λ r. ⌜ r ≡ kernelPart (now (image .entry)) offset ⌝ }
-{
-    Part {
-        address: addresses::given_or(offset, kernel::code32_start(image)),
-        place: ImagePlace(kernel::setup_size(image)),
-        size: kernel::kernel_size(image),
-    }
-}
-
 // The next portion.
 fn go_on(guest: &mut [u8], state: State, image: &[u8], memory: Memory, budget: u64) -> Stepped
     ensures { λ r. ⌜ Loads (planFrom state (goOn (courseOf (now (image .entry)) memory (state .«kernel_offset») (state .«highmem_start»)) (now (image .entry)) (heldOf state) budget)) (now (guest .entry)) r (now (guest .exit)) ⌝ }
@@ -103,7 +89,7 @@ fn go_on(guest: &mut [u8], state: State, image: &[u8], memory: Memory, budget: u
     let highmem = state.highmem_start;
     let at = progress.at;
     let done = progress.done;
-    let part = kernel_part(image, offset);
+    let part = kernel::kernel_part(image, offset);
     let portion = parts::pour_one(guest, memory, image, part, at, done, budget);
     Stepped {
         state: State {

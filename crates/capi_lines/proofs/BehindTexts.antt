@@ -21,6 +21,7 @@ use Rattle.cmdline.specs.Writing as writing
 use Rattle.guest.specs.Loading as loading
 use Rattle.guest.specs.Room.{memoryOf}
 use Rattle.guest.specs.declared.Map.{Map}
+use Rattle.guest.specs.declared.Memory.{Memory}
 use Rattle.guest.specs.Stream.{pour}
 use Rattle.loader.specs.declared.Answer.{Answer}
 use Rattle.loader.specs.declared.Answer.the-variants.{Refused}
@@ -140,13 +141,20 @@ equal-behind a b c d out s u w =
           ∙ ap (λ (t : Text). settled (Lines.equalGate b d out) out (sets out 0 (pick (writing.sameLine (Lines.textIn b) t) 1 0 ∷ []))) (u .text);
     }
 
+same-load-plan : (a b : List ℕ) (m : Memory) (address : ℕ) → Lines.SameLine a b → Lines.loadPlan a m address ≡ Lines.loadPlan b m address
+same-load-plan a b m address s =
+    ap (λ (ts : List Test). loading.behindTests Refused (ts ++ lines.tests (Lines.textIn a) m address) (lines.linePlan (Lines.textIn a) address)) (same-tests a b s)
+    ∙ ap (λ (t : Text). loading.behindTests Refused (Lines.lineTests b ++ lines.tests t m address) (lines.linePlan t address)) (s .text)
+
 pub load-behind : (a b : List ℕ) (address : ℕ) (map : Map) (guest : List ℕ) {r : ℕ} {after : List ℕ} → Lines.SameLine a b → Lines.LineLoadsFrom a address map guest r after
     → Lines.LineLoadsFrom b address map guest r after
 load-behind a b address map guest s w =
-    let plan : Lines.loadPlan a (memoryOf guest map) address ≡ Lines.loadPlan b (memoryOf guest map) address =
-    ap (λ (ts : List Test). loading.behindTests Refused (ts ++ lines.tests (Lines.textIn a) (memoryOf guest map) address) (lines.linePlan (Lines.textIn a) address)) (same-tests a b s)
-    ∙ ap (λ (t : Text). loading.behindTests Refused (Lines.lineTests b ++ lines.tests t (memoryOf guest map) address) (lines.linePlan t address)) (s .text) in
+    let plan = same-load-plan a b (memoryOf guest map) address s in
     record {
       answer = w .answer ∙ ap (λ (p : loading.Plan Answer). lines.lineNumber (p .answer)) plan;
       memory = w .memory ∙ ap (λ (p : loading.Plan Answer). pour (p .stream) guest) plan;
     }
+
+pub plan-behind : (a b : List ℕ) (size : ℕ) (map : Map) (address : ℕ) → Lines.SameLine a b → Lines.planNumber a size map address ≡ Lines.planNumber b size map address
+plan-behind a b size map address s =
+    ap (λ (p : loading.Plan Answer). lines.lineNumber (p .answer)) (same-load-plan a b (record { size = size; map = map }) address s)

@@ -44,6 +44,7 @@ use Rattle.cmdline.proofs.WritingLaws.{writes-any}
 use Rattle.guest.specs.Loading as loading
 use Rattle.guest.specs.Room.{memoryOf}
 use Rattle.guest.specs.declared.Map.{Map}
+use Rattle.guest.specs.declared.Memory.{Memory}
 use Rattle.guest.specs.Stream.{pour}
 use Rattle.loader.specs.declared.Answer.{Answer}
 use Rattle.loader.specs.declared.Answer.the-variants.{Refused}
@@ -466,39 +467,63 @@ module _ (a b out : List ℕ) {g : Gate} {one two : Header} (asks : g ≡ asked 
 
 -- ---- loading
 
-module _ (bytes : List ℕ) (address : ℕ) (map : Map) (guest : List ℕ) {header : Header} (reads : header ≡ Lines.headerBy Open bytes) where
+module _ (bytes : List ℕ) (m : Memory) (address : ℕ) {header : Header} (reads : header ≡ Lines.headerBy Open bytes) where
   abbrev row : List Test
-  row = lines.tests (Lines.textIn bytes) (memoryOf guest map) address
+  row = lines.tests (Lines.textIn bytes) m address
 
   abbrev plan : loading.Plan Answer
   plan = lines.linePlan (Lines.textIn bytes) address
 
+  -- the plan of a line that its own tests refuse
+  refused-plan : {refusal : Refusal} → header .gate ≡ Shut refusal → Lines.loadPlan bytes m address ≡ loading.refusedPlan Refused refusal
+  unfolding loading.behindTests
+  refused-plan {refusal} e =
+      ap (λ (g : Gate). loading.behindGate Refused g plan)
+      (asked-append Open (Lines.lineTests bytes) row ∙ ap (λ (g : Gate). askedAll g row) (sym (header-gate bytes reads) ∙ e) ∙ shut-stays row refusal)
+
+  -- of one that they let through it is the plan of its texts
+  texts-plan : {m' : Memory} {boot init : List ℕ} → header .gate ≡ Open → boot ≡ take (header .boots) (drop Lines.bootPlace bytes)
+      → init ≡ take (header .inits) (drop Lines.initPlace bytes) → m' ≡ m → lines.planOf (writing.bare boot init) m' address ≡ Lines.loadPlan bytes m address
+  unfolding loading.behindTests Lines.headerBy
+  texts-plan {m'} {boot} {init} e eb ei em =
+      let t = Lines.textIn bytes in
+      let gate : askedAll Open row ≡ askedAll Open (Lines.lineTests bytes ++ row) =
+      sym (asked-append Open (Lines.lineTests bytes) row ∙ ap (λ (g : Gate). askedAll g row) (sym (header-gate bytes reads) ∙ e)) in
+      let same-boot : boot ≡ t .boot = eb ∙ ap (λ (h : Header). take (h .boots) (drop Lines.bootPlace bytes)) reads in
+      let same-init : init ≡ t .init = ei ∙ ap (λ (h : Header). take (h .inits) (drop Lines.initPlace bytes)) reads in
+      ap (λ (x : Memory). lines.planOf (writing.bare boot init) x address) em
+      ∙ ap (λ (x : List ℕ). lines.planOf (writing.bare x init) m address) same-boot
+      ∙ ap (λ (x : List ℕ). lines.planOf (writing.bare (t .boot) x) m address) same-init
+      ∙ ap (λ (g : Gate). loading.behindGate Refused g plan) gate
+
+  -- the number of what loading it answers
+  pub plan-refused : {refusal : Refusal} {r : ℕ} → header .gate ≡ Shut refusal → r ≡ numberOf refusal → r ≡ lines.lineNumber (Lines.loadPlan bytes m address .answer)
+  unfolding lines.lineNumber
+  plan-refused e er = er ∙ sym (ap (λ (p : loading.Plan Answer). lines.lineNumber (p .answer)) (refused-plan e))
+
+  pub plan-told : {m' : Memory} {answer : Answer} {r : ℕ} {boot init : List ℕ} → header .gate ≡ Open
+      → boot ≡ take (header .boots) (drop Lines.bootPlace bytes) → init ≡ take (header .inits) (drop Lines.initPlace bytes) → m' ≡ m
+      → answer ≡ lines.planOf (writing.bare boot init) m' address .answer → r ≡ lines.lineNumber answer
+      → r ≡ lines.lineNumber (Lines.loadPlan bytes m address .answer)
+  plan-told e eb ei em ea er = er ∙ ap lines.lineNumber (ea ∙ ap (λ (p : loading.Plan Answer). p .answer) (texts-plan e eb ei em))
+
+module _ (bytes : List ℕ) (address : ℕ) (map : Map) (guest : List ℕ) {header : Header} (reads : header ≡ Lines.headerBy Open bytes) where
   pub load-refused : {refusal : Refusal} {r : ℕ} → header .gate ≡ Shut refusal → r ≡ numberOf refusal → Lines.LineLoadsFrom bytes address map guest r guest
-  unfolding loading.behindTests lines.lineNumber pour
-  load-refused {refusal} e er =
-      let gate : Shut refusal ≡ askedAll Open (Lines.lineTests bytes ++ row) =
-      sym (asked-append Open (Lines.lineTests bytes) row ∙ ap (λ (g : Gate). askedAll g row) (sym (header-gate bytes reads) ∙ e) ∙ shut-stays row refusal) in
+  unfolding pour
+  load-refused e er =
+      let m = memoryOf guest map in
       record {
-        answer = er ∙ ap (λ (g : Gate). lines.lineNumber (loading.behindGate Refused g plan .answer)) gate;
-        memory = ap (λ (g : Gate). pour (loading.behindGate Refused g plan .stream) guest) gate;
+        answer = plan-refused bytes m address reads e er;
+        memory = sym (ap (λ (p : loading.Plan Answer). pour (p .stream) guest) (refused-plan bytes m address reads e));
       }
 
   pub load-told : {m : Map} {answer : Answer} {r : ℕ} {boot init after : List ℕ} → header .gate ≡ Open → boot ≡ take (header .boots) (drop Lines.bootPlace bytes)
       → init ≡ take (header .inits) (drop Lines.initPlace bytes) → m ≡ map
       → lines.LineLoads (writing.bare boot init) address m guest answer after
       → r ≡ lines.lineNumber answer → Lines.LineLoadsFrom bytes address map guest r after
-  unfolding loading.behindTests Lines.headerBy
-  load-told {m} {answer} {r} {boot} {init} {after} e eb ei em loads er =
-      let t = Lines.textIn bytes in
-      let gate : askedAll Open row ≡ askedAll Open (Lines.lineTests bytes ++ row) =
-      sym (asked-append Open (Lines.lineTests bytes) row ∙ ap (λ (g : Gate). askedAll g row) (sym (header-gate bytes reads) ∙ e)) in
-      let same-boot : boot ≡ t .boot = eb ∙ ap (λ (h : Header). take (h .boots) (drop Lines.bootPlace bytes)) reads in
-      let same-init : init ≡ t .init = ei ∙ ap (λ (h : Header). take (h .inits) (drop Lines.initPlace bytes)) reads in
-      let own : lines.LineLoads (writing.bare (t .boot) (t .init)) address map guest answer after =
-      subst (λ (x : List ℕ). lines.LineLoads (writing.bare (t .boot) x) address map guest answer after) same-init
-      (subst (λ (x : List ℕ). lines.LineLoads (writing.bare x init) address map guest answer after) same-boot
-      (subst (λ (x : Map). lines.LineLoads (writing.bare boot init) address x guest answer after) em loads)) in
+  load-told e eb ei em loads er =
+      let same = ap (memoryOf guest) em in
       record {
-        answer = er ∙ ap lines.lineNumber (own .answer) ∙ ap (λ (g : Gate). lines.lineNumber (loading.behindGate Refused g plan .answer)) gate;
-        memory = own .memory ∙ ap (λ (g : Gate). pour (loading.behindGate Refused g plan .stream) guest) gate;
+        answer = plan-told bytes (memoryOf guest map) address reads e eb ei same (loads .answer) er;
+        memory = loads .memory ∙ ap (λ (p : loading.Plan Answer). pour (p .stream) guest) (texts-plan bytes (memoryOf guest map) address reads e eb ei same);
       }

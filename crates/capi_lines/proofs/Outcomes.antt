@@ -1,5 +1,5 @@
 -- Each function permits one outcome.
-use mathlib.Core.Path.{_≡_}
+use mathlib.Core.Path.{_≡_, refl}
 use Rattle.answers.specs.Outcome.{OneOutcome}
 use Rattle.answers.proofs.Outcomes.{meet, first}
 use Rattle.capi.proofs.Outcomes.{both, over}
@@ -25,6 +25,8 @@ use Rattle.capi_lines.proofs.line_words.rekusoyen_line_words.Kinds as l
 use Rattle.capi_lines.proofs.line_words.rekusoyen_line_words.Reads as line-words-reads
 use Rattle.capi_lines.proofs.rekusoyen_line_load.Kinds as line-load-kinds
 use Rattle.capi_lines.proofs.rekusoyen_line_load.Reads as line-load-reads
+use Rattle.capi_lines.proofs.rekusoyen_line_plan.Kinds as line-plan-kinds
+use Rattle.capi_lines.proofs.rekusoyen_line_plan.Reads as line-plan-reads
 
 pub line-new-one : OneOutcome 1 line-new-kinds.ps line-new-kinds.r line-new-reads.Post
 line-new-one κs a z z' ws ws' p q = (meet (p .answer) (q .answer), first (meet (p .line) (q .line)))
@@ -55,6 +57,9 @@ line-equal-one κs a z z' ws ws' p q = (meet (p .answer) (q .answer), over (over
 
 pub line-load-one : OneOutcome 3 line-load-kinds.ps line-load-kinds.r line-load-reads.Post
 line-load-one κs a z z' ws ws' p q = (meet (p .answer) (q .answer), first (meet (p .memory) (q .memory)))
+
+pub line-plan-one : OneOutcome 2 line-plan-kinds.ps line-plan-kinds.r line-plan-reads.Post
+line-plan-one κs a z z' ws ws' p q = (meet p q, refl)
 
 pub line-words-one : OneOutcome 5 line-words-kinds.ps line-words-kinds.r line-words-reads.Post
 line-words-one κs a z z' ws ws' p q = (

@@ -205,3 +205,7 @@ loadPlan bytes m address =
 pub record LineLoadsFrom (bytes : List ℕ) (address : ℕ) (map : Map) (guest : List ℕ) (r : ℕ) (after : List ℕ) : Type 0 where
   pub answer : r ≡ lines.lineNumber (loadPlan bytes (memoryOf guest map) address .answer)
   pub memory : after ≡ pour (loadPlan bytes (memoryOf guest map) address .stream) guest
+
+-- the number of what loading it answers, over guest memory of a size with a map
+abbrev pub planNumber : List ℕ → ℕ → Map → ℕ → ℕ
+planNumber bytes size map address = lines.lineNumber (loadPlan bytes (record { size = size; map = map }) address .answer)

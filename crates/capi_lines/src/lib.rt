@@ -1,15 +1,17 @@
 // What a monitor links: the kernel command line under C names, in bytes that the caller lends.
+ghost use mathlib.Core.Path.{_≡_};
 ghost use Rattle.cmdline.specs.Insertion.{insert, insertMultiple, insertStr, insertInitArgs};
 ghost use Rattle.cmdline.specs.Device.{addDevice};
 ghost use Rattle.cmdline.specs.Making.{new, tryFrom};
 ghost use Rattle.guest.specs.Maps.{mapOf};
-ghost use Rattle.capi_lines.specs.Lines.{textIn, the-boot, the-init, idBy, LineMakes, LineCalls, LineWrites, LinesCompare, LineLoadsFrom};
+ghost use Rattle.capi_lines.specs.Lines.{textIn, the-boot, the-init, idBy, LineMakes, LineCalls, LineWrites, LinesCompare, LineLoadsFrom, planNumber};
 use answers::Gate;
 use answers::Refusal;
 use cmdline::in_place;
 use cmdline::sizes;
 use cmdline::writing;
 use guest::GuestAddress;
+use guest::Memory;
 use guest::maps;
 use slugs::splitting;
 use slugs::trimming;
@@ -237,6 +239,33 @@ pub extern "C" fn rekusoyen_line_load(
                 boot,
                 init,
             );
+            lines::load_number(answer)
+        }
+    }
+}
+
+// What rekusoyen_line_load answers over guest memory of this size with this map. No guest memory is lent.
+#[no_mangle]
+pub extern "C" fn rekusoyen_line_plan(
+    memory_size: u64,
+    map: &[u64],
+    address: u64,
+    line: &[u8],
+) -> u32
+    ensures { λ r. ⌜ r ≡ planNumber (now (line .entry)) «memory_size» (mapOf (now (map .entry))) address ⌝ }
+{
+    let header = lines::read_header(Gate::Open, line);
+    let gate = header.gate;
+    match gate {
+        Gate::Shut(refusal) => answers::number(refusal),
+        Gate::Open => {
+            let boot = lines::text_at(line, lines::BOOT, header.boots);
+            let init = lines::text_at(line, lines::INIT, header.inits);
+            let memory = Memory {
+                size: memory_size,
+                map: maps::from_numbers(map),
+            };
+            let answer = loader::plan_texts(memory, GuestAddress(address), boot, init);
             lines::load_number(answer)
         }
     }

@@ -53,7 +53,7 @@ module _ (image : List ℕ) (m : Memory) (offset highmem : Given) where
   by-answer (Loaded result) whole = whole is-accepted
   by-answer (Refused r) whole = refl
 
-  whole-is : wholeOf (courseOf image m offset highmem) image ≡ planOf image m offset highmem .stream
+  pub whole-is : wholeOf (courseOf image m offset highmem) image ≡ planOf image m offset highmem .stream
   whole-is =
       by-answer (planOf image m offset highmem .answer) (parts-whole image m offset highmem) ∙ sym (plan-stream image m offset highmem)
 

@@ -20,4 +20,7 @@ pub mod HolesUntouched
 pub mod KernelEnd
 pub mod FileSizeStays
 pub mod FirstNote
+pub mod Parted
+pub mod NotesFootprint
+pub mod Footprint
 pub mod Outcomes

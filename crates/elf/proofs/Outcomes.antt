@@ -6,6 +6,12 @@ use Rattle.elf.proofs.load.Kinds as load-kinds
 use Rattle.elf.proofs.load.Reads as load-reads
 use Rattle.elf.proofs.parse_elf_note.Kinds as parse-elf-note-kinds
 use Rattle.elf.proofs.parse_elf_note.Reads as parse-elf-note-reads
+use Rattle.elf.proofs.parts.plan.Kinds as parts-plan-kinds
+use Rattle.elf.proofs.parts.plan.Reads as parts-plan-reads
+use Rattle.elf.proofs.parts.count.Kinds as parts-count-kinds
+use Rattle.elf.proofs.parts.count.Reads as parts-count-reads
+use Rattle.elf.proofs.parts.part.Kinds as parts-part-kinds
+use Rattle.elf.proofs.parts.part.Reads as parts-part-reads
 use Rattle.elf.proofs.steps.begin.Kinds as steps-begin-kinds
 use Rattle.elf.proofs.steps.begin.Reads as steps-begin-reads
 use Rattle.elf.proofs.steps.step.Kinds as steps-step-kinds
@@ -22,3 +28,12 @@ steps-begin-one κs a z z' ws ws' p q = (meet p q, refl)
 
 pub steps-step-one : OneOutcome 2 steps-step-kinds.ps steps-step-kinds.r steps-step-reads.Post
 steps-step-one κs a z z' ws ws' p q = (meet (p .answer) (q .answer), first (meet (p .memory) (q .memory)))
+
+pub parts-plan-one : OneOutcome 1 parts-plan-kinds.ps parts-plan-kinds.r parts-plan-reads.Post
+parts-plan-one κs a z z' ws ws' p q = (meet p q, refl)
+
+pub parts-count-one : OneOutcome 1 parts-count-kinds.ps parts-count-kinds.r parts-count-reads.Post
+parts-count-one κs a z z' ws ws' p q = (meet p q, refl)
+
+pub parts-part-one : OneOutcome 1 parts-part-kinds.ps parts-part-kinds.r parts-part-reads.Post
+parts-part-one κs a z z' ws ws' p q = (meet p q, refl)

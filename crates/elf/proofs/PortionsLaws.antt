@@ -4,7 +4,7 @@ use mathlib.Core.Path.{_≡_, sym, _∙_, refl, subst}
 use mathlib.Core.List.{List, []}
 use native.Mathlib.Omega.{arith}
 use native.Mathlib.Decide.{decLe, ℕ-discrete}
-use borrow.Author.Tests.{eq-eqb, ne-eqb}
+use borrow.Author.Tests.{eq-eqb, ne-eqb, lt-ltb, le-ltb}
 use lib.ListN.{length}
 use Rattle.answers.specs.Pick.{pick}
 use Rattle.answers.proofs.PickLaws.{pick-with}
@@ -17,11 +17,11 @@ use Rattle.guest.specs.declared.Given.{Given}
 use Rattle.guest.specs.declared.Memory.{Memory}
 use Rattle.guest.specs.declared.Part.{Part}
 use Rattle.guest.specs.declared.Portion.{Portion}
-use Rattle.guest.proofs.PartsLaws.{kept-stands, kept-none, kept-fits}
+use Rattle.guest.proofs.PartsLaws.{kept-none, kept-fits}
 use Rattle.elf.specs.Header.{e-phoff, e-phnum, programHeaderSize}
-use Rattle.elf.specs.ProgramHeaders.{headerPlace, headerOf, HeadersStand}
+use Rattle.elf.specs.ProgramHeaders.{headerPlace, headerOf}
 use Rattle.elf.specs.Pouring.{segmentStream, streamFrom, wholeStream, planOf}
-use Rattle.elf.specs.Portions.{headerPart, partAt, partOf, portionAt}
+use Rattle.elf.specs.Portions.{headerPart, partAt, partOf, partBelow, portionAt}
 use Rattle.elf.specs.Rules.{SegmentFits, SegmentRules}
 use Rattle.elf.specs.Verdict.{Accepted}
 use Rattle.elf.specs.declared.program_headers.ProgramHeader.{ProgramHeader}
@@ -39,6 +39,17 @@ pub part-copied : (image : List ℕ) (m : Memory) (shift i : ℕ) {p : Part} {sk
     → PartCopied image (keptPart (length image) m p) skip budget before size count after → PartCopied image (partOf image m shift i) skip budget before size count after
 part-copied image m shift i {p} {skip} {budget} {size} {count} {before} {after} e copied =
     subst (λ x. PartCopied image (keptPart (length image) m x) skip budget before size count after) e copied
+
+-- the part of any number, as code asks for it
+module _ (image : List ℕ) (m : Memory) (offset : Given) (i : ℕ) where
+  pub part-past : {n : ℕ} {r : Part} → n ≡ e-phnum image → n ≤ i → r ≡ noPart → r ≡ partBelow image m offset i
+  unfolding partBelow pick
+  part-past en past er = rw (le-ltb i (e-phnum image) (subst (λ x. x ≤ i) en past)) er
+
+  pub part-below : {n shift : ℕ} {p r : Part} → n ≡ e-phnum image → i < n → shift ≡ amountOf offset → p ≡ partAt image shift i
+      → r ≡ keptPart (length image) m p → r ≡ partBelow image m offset i
+  unfolding partBelow pick
+  part-below en lt es ep er = rw (lt-ltb i (e-phnum image) (subst (λ x. i < x) en lt), er, ep, es)
 
 -- a place within a part is a number of 64 bits
 pub short-sum : (passed k size top : ℕ) → k < size - passed → size < top → passed + k < top

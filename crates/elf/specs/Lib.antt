@@ -13,3 +13,4 @@ pub mod FirstNote
 pub mod NoteVerdict
 pub mod ByteRule
 pub mod Lengthening
+pub mod Footprint

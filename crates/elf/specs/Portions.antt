@@ -1,12 +1,14 @@
 -- The parts of a load, one for each program header. They are told of any image: a later step may meet another one than the first.
 use Prim.Native.Nat.{ℕ, _+_, _*_}
 use mathlib.Core.List.{List}
-use lib.Dec.{eqb}
+use lib.Dec.{ltb, eqb}
 use lib.ListN.{length}
 use Rattle.answers.specs.Pick.{pick}
 use Rattle.fields.specs.Ranges.{liesWithin, fits64}
+use Rattle.guest.specs.Addresses.{amountOf}
 use Rattle.guest.specs.Parts.{noPart, keptPart, portionOf}
 use Rattle.guest.specs.Loading.{Plan}
+use Rattle.guest.specs.declared.Given.{Given}
 use Rattle.guest.specs.declared.Memory.{Memory}
 use Rattle.guest.specs.declared.Part.{Part}
 use Rattle.guest.specs.declared.Portion.{Portion}
@@ -31,6 +33,10 @@ partAt image shift i =
 -- where its bytes stand in the image and have room
 abbrev pub partOf : List ℕ → Memory → ℕ → ℕ → Part
 partOf image m shift i = keptPart (length image) m (partAt image shift i)
+
+-- the same of any number: from the count of program headers on there is no part
+unfoldable pub partBelow : List ℕ → Memory → Given → ℕ → Part
+partBelow image m offset i = pick (ltb i (e-phnum image)) (partOf image m (amountOf offset) i) noPart
 
 -- a portion from program header i on, q bytes of whose segment are done
 abbrev pub portionAt : List ℕ → Memory → ℕ → ℕ → ℕ → ℕ → Plan Portion

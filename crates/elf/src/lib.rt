@@ -25,6 +25,7 @@ use guest::sizes;
 
 mod header;
 mod notes;
+pub mod parts;
 mod portions;
 mod pouring;
 mod program_headers;

@@ -34,7 +34,7 @@ fn part_of(shift: u64, h: ProgramHeader) -> Part
 }
 
 // The part of program header i, where it stands in the image.
-fn part_at(image: &[u8], shift: u64, i: u64) -> Part
+pub(crate) fn part_at(image: &[u8], shift: u64, i: u64) -> Part
     requires { ⌜ i < 65536 ⌝ }
     ensures { λ r. ⌜ r ≡ partAt (now (image .entry)) shift i ⌝ }
 {

@@ -2,6 +2,7 @@ pub mod CopyingLaws
 pub mod HasBytesLaws
 pub mod NumbersLaws
 pub mod TagsLaws
+pub mod AgreementLaws
 pub mod RangesLaws
 pub mod RowsLaws
 pub mod RowsBack

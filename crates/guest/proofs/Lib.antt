@@ -7,4 +7,5 @@ pub mod LoadingLaws
 pub mod PartsLaws
 pub mod StepsLaws
 pub mod InSteps
+pub mod PartedLaws
 pub mod Outcomes

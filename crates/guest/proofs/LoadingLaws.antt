@@ -3,7 +3,6 @@ use Prim.Native.Nat.{ℕ, _≤_}
 use mathlib.Core.Path.{_≡_, sym, _∙_, refl, ap, subst⁻¹}
 use mathlib.Core.Bool.{false}
 use mathlib.Core.List.{List, [], _++_}
-use native.Mathlib.Omega.{arith}
 use lib.ListN.{length, getD}
 use Rattle.answers.specs.Tests.{Test, askedAll, AllHold, FirstFails}
 use Rattle.answers.specs.Keeping.{Keeps, same, lifted, ShutBy, shut-by, Widens}
@@ -119,3 +118,15 @@ module _ {A : Type 0} (refused : Refusal → A) (Lifts : Refusal → Type 0) whe
       → Keeps LiftPlan (behindTests refused ts plan) (behindTests refused ts' plan')
   unfolding behindTests
   behind-keeps {ts} widens rest = gate-keeps (row-keeps Lifts widens) (λ e. rest (open-all ts e))
+
+-- ---- two plans behind the same tests
+
+-- they answer the same where the plans do, whatever each writes
+pub answer-same : {A : Type 0} (refused : Refusal → A) {ts ts' : List Test} (plan plan' : Plan A) → ts ≡ ts' → plan .answer ≡ plan' .answer
+    → behindTests refused ts plan .answer ≡ behindTests refused ts' plan' .answer
+unfolding behindTests
+answer-same refused {ts} {ts'} plan plan' et ea = ap (λ (xs : List Test). behindGate refused (askedAll Open xs) plan .answer) et ∙ by (askedAll Open ts')
+  where
+    by : (g : Gate) → behindGate refused g plan .answer ≡ behindGate refused g plan' .answer
+    by Open = ea
+    by (Shut r) = refl

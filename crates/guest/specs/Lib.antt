@@ -8,3 +8,4 @@ pub mod Loading
 pub mod Parts
 pub mod Steps
 pub mod Runs
+pub mod Parted

@@ -1,6 +1,6 @@
 -- Laws of the plan by which a line is loaded.
 use Prim.Native.Nat.{ℕ, _+_, _≤_}
-use mathlib.Core.Path.{_≡_, _∙_, subst}
+use mathlib.Core.Path.{_≡_, refl, sym, ap, _∙_, subst}
 use mathlib.Core.Bool.{Bool, true, false, not}
 use mathlib.Core.List.{List, [], _∷_, _++_}
 use native.Mathlib.Omega.{arith}
@@ -12,19 +12,23 @@ use Rattle.answers.specs.Tests.{Test, asked, isOpen, askedAll, AllHold, FirstFa
 use Rattle.answers.specs.declared.Refusal.{Refusal}
 use Rattle.answers.specs.declared.Refusal.the-variants.{InvalidCommandLine, CommandLineOverflow}
 use Rattle.answers.specs.declared.Gate.{Gate}
-use Rattle.answers.specs.declared.Gate.the-variants.{Open}
+use Rattle.answers.specs.declared.Gate.the-variants.{Open, Shut}
 use Rattle.answers.proofs.PickLaws.{held}
 use Rattle.answers.proofs.TestsLaws.{hold-right}
 use Rattle.cmdline.specs.Text.{Text, sizeOf}
 use Rattle.cmdline.specs.Writing.{wholeOf, textGate, bare}
 use Rattle.cmdline.proofs.WritingLaws.{whole-size}
 use Rattle.guest.specs.Lent.{memoryTests}
-use Rattle.guest.specs.Room.{room}
+use Rattle.guest.specs.Loading.{Plan}
+use Rattle.guest.specs.Room.{room, memoryOf}
+use Rattle.guest.specs.Stream.{pour, streamAt}
+use Rattle.guest.specs.declared.Map.{Map}
 use Rattle.guest.specs.declared.Memory.{Memory}
 use Rattle.guest.proofs.RoomLaws.{room-beyond}
-use Rattle.guest.proofs.LoadingLaws.{behind-with}
+use Rattle.guest.proofs.LoadingLaws.{behind-with, tests-open, tests-shut, all-planned, first-planned}
+use Rattle.loader.specs.declared.Answer.{Answer}
 use Rattle.loader.specs.declared.Answer.the-variants.{Loaded, Refused}
-use Rattle.loader.specs.Lines.{lineBytes, textRow, roomRow, tests, linePlan, planOf}
+use Rattle.loader.specs.Lines.{lineBytes, textRow, roomRow, tests, linePlan, planOf, LineLoads}
 
 -- the line and its zero have the counted size
 line-length : (b i : List ℕ) → length (lineBytes (bare b i)) ≡ sizeOf (length b) (length i)
@@ -75,3 +79,26 @@ module _ (t : Text) (m : Memory) (address : ℕ) where
       behind-with Refused row (linePlan t address) (λ p. p .answer ≡ Refused refusal → FirstFails refusal row)
       (λ hold e. let z : _≡_ {A = ℕ} 0 1 = cc in absurd (omega arith))
       (λ r fails e. let same : _≡_ {A = Refusal} r refusal = cc in subst (λ x. FirstFails x row) same fails)
+
+  -- the answer, as code works it out
+  pub answer-shut : {gate : Gate} {refusal : Refusal} → gate ≡ askedAll Open row → gate ≡ Shut refusal → Refused refusal ≡ planOf t m address .answer
+  answer-shut asked is = sym (ap (λ (p : Plan Answer). p .answer) (tests-shut Refused row (linePlan t address) (sym asked ∙ is)))
+
+  pub answer-open : {gate : Gate} → gate ≡ askedAll Open row → gate ≡ Open → Loaded ≡ planOf t m address .answer
+  answer-open asked is = sym (ap (λ (p : Plan Answer). p .answer) (tests-open Refused row (linePlan t address) (sym asked ∙ is)))
+
+-- ---- what code does by the answer
+
+module _ (t : Text) (address : ℕ) (map : Map) (guest : List ℕ) where
+  pub refused-loads : {answer : Answer} {refusal : Refusal} → answer ≡ planOf t (memoryOf guest map) address .answer → answer ≡ Refused refusal
+      → LineLoads t address map guest (Refused refusal) guest
+  unfolding pour
+  refused-loads ea er =
+      let m = memoryOf guest map in
+      rw (first-planned Refused (tests t m address) (linePlan t address) (plan-refused t m address (sym ea ∙ er))) (record { answer = refl; memory = refl })
+
+  pub written-loads : {answer : Answer} {after : List ℕ} → answer ≡ planOf t (memoryOf guest map) address .answer → answer ≡ Loaded
+      → after ≡ pour (streamAt address (lineBytes t)) guest → LineLoads t address map guest Loaded after
+  written-loads ea er written =
+      let m = memoryOf guest map in
+      rw (all-planned Refused (tests t m address) (linePlan t address) (plan-loaded t m address (sym ea ∙ er))) (record { answer = refl; memory = written })

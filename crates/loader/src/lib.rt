@@ -15,7 +15,7 @@ ghost use Rattle.cmdline.specs.Held.{textOf};
 ghost use Rattle.cmdline.specs.Text.{sizeOf};
 ghost use Rattle.cmdline.specs.Writing.{bare};
 ghost use Rattle.guest.specs.Room.{room};
-ghost use Rattle.loader.specs.Lines.{LineLoads};
+ghost use Rattle.loader.specs.Lines.{planOf, LineLoads};
 use answers::Gate;
 use answers::Refusal;
 use cmdline::Cmdline;
@@ -48,6 +48,27 @@ fn line_has_room(memory: Memory, address: GuestAddress, boots: usize, inits: usi
     room::has_room(memory, address, boots as u64 + 1 + (4 + inits as u64))
 }
 
+// What loading the line of two texts into a memory answers: the tests, in their order.
+pub fn plan_texts(memory: Memory, guest_addr: GuestAddress, boot: &[u8], init: &[u8]) -> Answer
+    ensures { λ r. ⌜ r ≡ planOf (bare (now (boot .entry)) (now (init .entry))) memory («guest_addr» .0) .answer ⌝ }
+{
+    let gate = lent::ask_memory(Gate::Open, memory);
+    let gate = answers::require(
+        gate,
+        answers::is_open(writing::text_gate(boot, init)),
+        Refusal::InvalidCommandLine,
+    );
+    let gate = answers::require(
+        gate,
+        line_has_room(memory, guest_addr, boot.len(), init.len()),
+        Refusal::CommandLineOverflow,
+    );
+    match gate {
+        Gate::Shut(refusal) => Answer::Refused(refusal),
+        Gate::Open => Answer::Loaded,
+    }
+}
+
 // Writes the line of two texts and its zero to an address. The part of guest memory that begins there is lent on, and the writer sees only
 // that part.
 pub fn load_texts(
@@ -63,20 +84,10 @@ pub fn load_texts(
         size: guest.len() as u64,
         map: map,
     };
-    let gate = lent::ask_memory(Gate::Open, memory);
-    let gate = answers::require(
-        gate,
-        answers::is_open(writing::text_gate(boot, init)),
-        Refusal::InvalidCommandLine,
-    );
-    let gate = answers::require(
-        gate,
-        line_has_room(memory, guest_addr, boot.len(), init.len()),
-        Refusal::CommandLineOverflow,
-    );
-    match gate {
-        Gate::Shut(refusal) => Answer::Refused(refusal),
-        Gate::Open => {
+    let answer = plan_texts(memory, guest_addr, boot, init);
+    match answer {
+        Answer::Refused(refusal) => Answer::Refused(refusal),
+        Answer::Loaded => {
             let at = copying::lesser(guest_addr.0 as usize, guest.len());
             writing::write(&mut guest[at..], boot, init);
             Answer::Loaded

@@ -1,7 +1,7 @@
--- `steps::kernel_part`: the calls' results are the fields.
+-- `kernel::kernel_part`: the calls' results are the fields.
 use borrow.Author.Needs.{needs}
-use Rattle.bzimage.proofs.steps.kernel_part.Statement.{statement}
-use Rattle.bzimage.proofs.steps.kernel_part.Tie as tie
+use Rattle.bzimage.proofs.kernel.kernel_part.Statement.{statement}
+use Rattle.bzimage.proofs.kernel.kernel_part.Tie as tie
 
 returns : tie.Need-returns
 returns c = rw (c .kernel-size .ensures, c .before .setup-size .ensures, c .before .before .given-or .ensures, c .before .before .before .code32-start .ensures)

@@ -1,0 +1,10 @@
+-- `parts::part`: the image's part, kept.
+use borrow.Author.Needs.{needs}
+use Rattle.bzimage.proofs.parts.part.Statement.{statement}
+use Rattle.bzimage.proofs.parts.part.Tie as tie
+
+returns : tie.Need-returns
+returns c = rw (c .kept .ensures, c .before .kernel-part .ensures)
+
+pub part-spec : {M : Type 1} → statement M
+part-spec = tie.close (tie.spec (λ c κs. search needs) (λ c κs. search needs) returns)

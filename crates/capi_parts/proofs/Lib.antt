@@ -1,0 +1,3 @@
+pub mod PlansLaws
+pub mod PartsTold
+pub mod Outcomes

@@ -1,0 +1,145 @@
+-- "Two images of one length that hold the same bytes in the header, the program headers and the notes have the same plan": the same answer, the same
+-- number of parts and the same parts, whatever the rest of either image holds. So a caller may plan with those bytes alone, and copy the parts
+-- from the whole image: guest memory is then as the load of the whole image leaves it.
+use Prim.Native.Nat.{ℕ, zero, suc, _+_, _*_, _≤_, _<_}
+use mathlib.Core.Path.{_≡_, sym, _∙_, refl, ap}
+use mathlib.Core.Bool.{false}
+use mathlib.Core.List.{List}
+use native.Mathlib.Omega.{arith}
+use borrow.Author.Tests.{eqb-true, ltb-true}
+use lib.Dec.{eqb, ltb}
+use Rattle.answers.specs.Pick.{pick}
+use Rattle.answers.proofs.PickLaws.{pick-both}
+use Rattle.fields.specs.Agreement.{Agree}
+use Rattle.fields.specs.Numbers.{le}
+use Rattle.fields.proofs.AgreementLaws.{agree-within, agree-le, agree-tag}
+use Rattle.guest.specs.Addresses.{amountOf, isGiven}
+use Rattle.guest.specs.Parted.{copiedFrom, SamePlan}
+use Rattle.guest.specs.Parts.{noPart}
+use Rattle.guest.specs.Room.{memoryOf}
+use Rattle.guest.specs.declared.Given.{Given}
+use Rattle.guest.specs.declared.Map.{Map}
+use Rattle.guest.specs.declared.Memory.{Memory}
+use Rattle.guest.proofs.LoadingLaws.{answer-same}
+use Rattle.guest.proofs.PartedLaws.{same-leave}
+use Rattle.elf.specs.Footprint.{SameNotes, SameFootprint}
+use Rattle.elf.specs.Header.{magic, e-phoff, e-phnum, programHeaderSize, tests}
+use Rattle.elf.specs.Load.{LoadSays}
+use Rattle.elf.specs.Portions.{partAt, partOf, partBelow}
+use Rattle.elf.specs.Pouring.{surveyPlan, planOf}
+use Rattle.elf.specs.ProgramHeaders.{headerPlace, headerAt, headerOf}
+use Rattle.elf.specs.Steps.{courseOf}
+use Rattle.elf.specs.Survey.{noteStep, saidStep, stepOf, afterStep, advanced, surveyFrom, surveyOf, blank, loadAddress}
+use Rattle.elf.specs.declared.Answer.{Answer}
+use Rattle.elf.specs.declared.Answer.the-variants.{Loaded, Refused}
+use Rattle.elf.specs.declared.KernelLoaderResult.{KernelLoaderResult}
+use Rattle.elf.specs.declared.program_headers.ProgramHeader.{ProgramHeader}
+use Rattle.elf.specs.declared.survey.Effect.{Effect}
+use Rattle.elf.specs.declared.survey.Step.{Step}
+use Rattle.elf.specs.declared.survey.Step.the-variants.{Pass, Stop}
+use Rattle.elf.proofs.NotesFootprint.{entry-same}
+use Rattle.elf.proofs.Parted.{parts-are, loads-by}
+
+-- ---- what is read
+
+-- a program header at a place
+at-same : (s t : List ℕ) (p : ℕ) → Agree s t p programHeaderSize → headerAt s p ≡ headerAt t p
+unfolding headerAt
+at-same s t p agree =
+    rw (
+      agree-le s t 4 p (agree-within s t p programHeaderSize p 4 agree (omega arith) (omega arith)),
+      agree-le s t 8 (p + 8) (agree-within s t p programHeaderSize (p + 8) 8 agree (omega arith) (omega arith)),
+      agree-le s t 8 (p + 24) (agree-within s t p programHeaderSize (p + 24) 8 agree (omega arith) (omega arith)),
+      agree-le s t 8 (p + 32) (agree-within s t p programHeaderSize (p + 32) 8 agree (omega arith) (omega arith)),
+      agree-le s t 8 (p + 40) (agree-within s t p programHeaderSize (p + 40) 8 agree (omega arith) (omega arith)),
+    )
+
+module _ (s t : List ℕ) (offset : Given) (same : SameFootprint s t offset) where
+  -- a field of the header
+  field-same : (n p : ℕ) → p + n ≤ 64 → le n s p ≡ le n t p
+  field-same n p h = agree-le s t n p (agree-within s t 0 64 p n (same .header) (omega arith) (omega arith))
+
+  pub phnum-same : e-phnum s ≡ e-phnum t
+  phnum-same = field-same 2 56 (omega arith)
+
+  -- a program header
+  header-same : (j : ℕ) → j < e-phnum s → headerOf s j ≡ headerOf t j
+  header-same j lt =
+      at-same s t (headerPlace s j) (agree-within s t (e-phoff s) (programHeaderSize * e-phnum s) (headerPlace s j) programHeaderSize (same .program-headers) (omega arith) (omega arith))
+      ∙ ap (λ p. headerAt t (p + programHeaderSize * j)) (field-same 8 32 (omega arith))
+
+  -- ---- the answer
+
+  module _ (m : Memory) where
+    -- what a program header says, which the footprint has
+    said-same : (h : ProgramHeader) → (isGiven offset ≡ false → SameNotes s t h) → stepOf s m offset h ≡ stepOf t m offset h
+    unfolding stepOf noteStep
+    said-same h notes =
+        rw (same .lengths)
+        (pick-both _≡_ (eqb (h .«p_type») 1) (λ _. refl)
+        (λ _. pick-both _≡_ (eqb (h .«p_type») 4)
+        (λ is. pick-both _≡_ (isGiven offset) (λ _. refl)
+        (λ none. ap saidStep (entry-same s t (same .lengths) (h .«p_offset») (h .«p_filesz») (notes none (eqb-true (h .«p_type») 4 is)))))
+        (λ _. refl)))
+
+    step-same : (j : ℕ) → j < e-phnum s → stepOf s m offset (headerOf s j) ≡ stepOf t m offset (headerOf t j)
+    step-same j lt = said-same (headerOf s j) (λ none. same .notes none j lt) ∙ ap (stepOf t m offset) (header-same j lt)
+
+    survey-same : (n i : ℕ) (result : KernelLoaderResult) → i + n ≤ e-phnum s → surveyFrom n s m offset i result ≡ surveyFrom n t m offset i result
+    unfolding surveyFrom
+    survey-same zero i result h = refl
+    survey-same (suc n) i result h =
+        ap (λ (x : Step). afterStep x (λ e. surveyFrom n s m offset (suc i) (advanced result e))) (step-same i (omega arith))
+        ∙ by (stepOf t m offset (headerOf t i)) (λ e. survey-same n (suc i) (advanced result e) (omega arith))
+      where
+        by : {more more' : Effect → Answer} (x : Step) → ((e : Effect) → more e ≡ more' e) → afterStep x more ≡ afterStep x more'
+        by (Pass e) rest = rest e
+        by (Stop r) rest = refl
+
+    all-same : surveyOf s m offset ≡ surveyOf t m offset
+    all-same =
+        survey-same (e-phnum s) 0 (blank (loadAddress s offset)) (omega arith)
+        ∙ ap (λ n. surveyFrom n t m offset 0 (blank (loadAddress s offset))) phnum-same
+        ∙ ap (λ entry. surveyFrom (e-phnum t) t m offset 0 (blank (record { 0 = amountOf offset + entry }))) (field-same 8 24 (omega arith))
+
+    tests-same : (highmem : Given) → tests s m offset highmem ≡ tests t m offset highmem
+    tests-same highmem =
+        rw (
+          same .lengths,
+          agree-tag s t magic 0 (agree-within s t 0 64 0 4 (same .header) (omega arith) (omega arith)),
+          field-same 1 5 (omega arith),
+          field-same 2 54 (omega arith),
+          field-same 8 32 (omega arith),
+          field-same 8 24 (omega arith),
+          phnum-same,
+        )
+
+    pub plan-same : (highmem : Given) → planOf s m offset highmem .answer ≡ planOf t m offset highmem .answer
+    plan-same highmem = answer-same Refused (surveyPlan s offset (surveyOf s m offset)) (surveyPlan t offset (surveyOf t m offset)) (tests-same highmem) all-same
+
+    -- ---- the parts
+
+    part-same : (i : ℕ) → i < e-phnum s → partOf s m (amountOf offset) i ≡ partOf t m (amountOf offset) i
+    unfolding partAt
+    part-same i lt = rw (header-same i lt, same .lengths, field-same 8 32 (omega arith))
+
+    -- as `parts::part` answers them
+    pub told-same : (i : ℕ) → partBelow s m offset i ≡ partBelow t m offset i
+    unfolding partBelow
+    told-same i =
+        pick-both _≡_ (ltb i (e-phnum s)) (λ below. part-same i (ltb-true i (e-phnum s) below)) (λ _. refl)
+        ∙ ap (λ n. pick (ltb i n) (partOf t m (amountOf offset) i) noPart) phnum-same
+
+    pub same-plan : (highmem : Given) → SamePlan (courseOf s m offset highmem) (courseOf t m offset highmem)
+    same-plan highmem = record { answer = plan-same highmem; count = phnum-same; parts = part-same }
+
+-- ---- a load by the parts of another image that has the same footprint
+
+pub planned-elsewhere : (image sparse : List ℕ) (offset highmem : Given) → SameFootprint image sparse offset → (map : Map) (before after : List ℕ) {r : Answer}
+    {result : KernelLoaderResult} → LoadSays image offset highmem map before r after → r ≡ Loaded result
+    → (r ≡ planOf sparse (memoryOf before map) offset highmem .answer)
+    × (after ≡ copiedFrom (e-phnum sparse) image (partOf sparse (memoryOf before map) (amountOf offset)) 0 before)
+planned-elsewhere image sparse offset highmem same map before after loads is =
+    let m = memoryOf before map in
+    same-leave (courseOf image m offset highmem) image m (planOf image m offset highmem) (parts-are image m offset highmem) before loads
+    (loads-by image m offset highmem (sym (loads .answer) ∙ is)) (courseOf sparse m offset highmem) (same-plan image sparse offset same m highmem)
