@@ -69,6 +69,21 @@ pub const ARM64_STATE: usize = 45;
 /// How many places the list of a step's values of an arm64 load has.
 pub const ARM64_STEP_OUT: usize = 5;
 
+/// How many places the list of an ELF plan's values has.
+pub const ELF_PLAN_OUT: usize = ELF_LOAD_OUT + 1;
+
+/// How many places the list of a bzImage plan's values has.
+pub const BZIMAGE_PLAN_OUT: usize = BZIMAGE_LOAD_OUT + ELF_PART_OUT;
+
+/// How many places the list of an arm64 plan's values has.
+pub const ARM64_PLAN_OUT: usize = ARM64_LOAD_OUT + ELF_PART_OUT;
+
+/// How many numbers a part of a load has.
+pub const ELF_PART_OUT: usize = 3;
+
+/// How many bytes an image or guest memory has at most.
+pub const LONGEST_SLICE: u64 = 1 << 40;
+
 /// How many ranges a map of guest memory has at most.
 pub const MAP_RANGES: usize = 16;
 
@@ -254,6 +269,95 @@ extern "C" {
         budget: u64,
         out: *mut u64,
         out_len: usize,
+    ) -> u32;
+
+    /// What [`rekusoyen_elf_load`] would answer over guest memory of this size with this map. `out` has [`ELF_PLAN_OUT`] places: the six of a
+    /// load, then the number of parts.
+    ///
+    /// # Safety
+    ///
+    /// As of [`rekusoyen_elf_load`].
+    pub fn rekusoyen_elf_plan(
+        memory_size: u64,
+        map: *const u64,
+        map_len: usize,
+        image: *const u8,
+        image_len: usize,
+        flags: u32,
+        offset: u64,
+        highmem: u64,
+        out: *mut u64,
+        out_len: usize,
+    ) -> u32;
+
+    /// Part `index` of that load. `out` has [`ELF_PART_OUT`] places: the guest address, the place in the image and the size; all 0 where the part
+    /// has no bytes or there is no such part.
+    ///
+    /// # Safety
+    ///
+    /// As of [`rekusoyen_elf_load`].
+    pub fn rekusoyen_elf_part(
+        memory_size: u64,
+        map: *const u64,
+        map_len: usize,
+        image: *const u8,
+        image_len: usize,
+        flags: u32,
+        offset: u64,
+        index: u64,
+        out: *mut u64,
+        out_len: usize,
+    ) -> u32;
+
+    /// What [`rekusoyen_bzimage_load`] would answer. `out` has [`BZIMAGE_PLAN_OUT`] places: the two of a load, then its part; `header` has
+    /// [`SETUP_HEADER_SIZE`] bytes.
+    ///
+    /// # Safety
+    ///
+    /// As of [`rekusoyen_elf_load`].
+    pub fn rekusoyen_bzimage_plan(
+        memory_size: u64,
+        map: *const u64,
+        map_len: usize,
+        image: *const u8,
+        image_len: usize,
+        flags: u32,
+        offset: u64,
+        highmem: u64,
+        out: *mut u64,
+        out_len: usize,
+        header: *mut u8,
+        header_len: usize,
+    ) -> u32;
+
+    /// What [`rekusoyen_arm64_load`] would answer. `out` has [`ARM64_PLAN_OUT`] places: the two of a load, then its part.
+    ///
+    /// # Safety
+    ///
+    /// As of [`rekusoyen_elf_load`].
+    pub fn rekusoyen_arm64_plan(
+        memory_size: u64,
+        map: *const u64,
+        map_len: usize,
+        image: *const u8,
+        image_len: usize,
+        base: u64,
+        out: *mut u64,
+        out_len: usize,
+    ) -> u32;
+
+    /// What [`rekusoyen_line_load`] would answer over guest memory of this size with this map.
+    ///
+    /// # Safety
+    ///
+    /// As of [`rekusoyen_elf_load`].
+    pub fn rekusoyen_line_plan(
+        memory_size: u64,
+        map: *const u64,
+        map_len: usize,
+        address: u64,
+        line: *const u8,
+        line_len: usize,
     ) -> u32;
 
     /// Builds the boot page in [`PAGE_SIZE`] bytes; `header` has [`SETUP_HEADER_SIZE`] bytes, and `rows` three numbers for each row.

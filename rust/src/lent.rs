@@ -8,6 +8,8 @@ use crate::map::Map;
 use crate::refusal::{answered, Refusal};
 use crate::GuestAddress;
 
+pub(crate) mod plans;
+
 /// Guest memory, lent for one call, and its map if it has one.
 pub(crate) struct Guest<'a> {
     start: *mut u8,
@@ -20,22 +22,22 @@ pub(crate) struct Guest<'a> {
 
 impl<'a> From<&'a mut [u8]> for Guest<'a> {
     fn from(bytes: &'a mut [u8]) -> Self {
-        Guest::new(bytes.as_mut_ptr(), bytes.len(), None)
+        Guest::new(bytes, None)
     }
 }
 
 impl<'a> Guest<'a> {
     /// Guest memory that has a map.
     pub(crate) fn over(bytes: &'a mut [u8], map: &'a Map) -> Self {
-        Guest::new(bytes.as_mut_ptr(), bytes.len(), Some(map))
+        Guest::new(bytes, Some(map))
     }
 
-    fn new(start: *mut u8, length: usize, map: Option<&'a Map>) -> Self {
+    fn new(bytes: &'a mut [u8], map: Option<&'a Map>) -> Self {
         Guest {
-            start,
-            length,
+            start: bytes.as_mut_ptr(),
+            length: bytes.len(),
             map,
-            whole: [0, length as u64],
+            whole: [0, bytes.len() as u64],
             lent: PhantomData,
         }
     }
@@ -48,17 +50,6 @@ impl<'a> Guest<'a> {
             None => &self.whole,
         }
     }
-
-    /// Guest memory that is no slice of Rust's.
-    ///
-    /// # Safety
-    ///
-    /// While the value lives, `length` bytes from `start` on can be read and written, and no reference of Rust's covers any of
-    /// them.
-    #[cfg(feature = "vm-memory")]
-    pub(crate) unsafe fn at(start: *mut u8, length: usize) -> Self {
-        Guest::new(start, length, None)
-    }
 }
 
 /// Where a load is to put the kernel, if the caller says, and where high memory starts.
@@ -69,12 +60,6 @@ pub(crate) struct Options {
 }
 
 impl Options {
-    /// Where a segment for an address goes, if that fits into 64 bits.
-    #[cfg(feature = "vm-memory")]
-    pub(crate) fn moved(&self, address: u64) -> Option<u64> {
-        address.checked_add(number(self.offset))
-    }
-
     fn flags(&self) -> u32 {
         let offset = if self.offset.is_some() {
             entry::OFFSET_GIVEN

@@ -34,13 +34,13 @@
 //! [`boot_page`] builds and reads the zero page of a bzImage, [`start_info`] writes, checks and reads the PVH start block.
 //!
 //! With the feature `vm-memory`, `loader` has the trait `KernelLoader` and the function `load_cmdline` of linux-loader, with its
-//! signatures: a monitor writes `use rekusoyen::..` for `use linux_loader::..`. Guest memory is then the region that begins at
-//! guest address 0; memory in other regions is no room.
+//! signatures: a monitor writes `use rekusoyen::..` for `use linux_loader::..`. Guest memory is then all its regions, and of an image
+//! nothing is read but what is needed. `plan` of each loader says which bytes of an image go to which addresses, without guest memory.
 //!
 //! # Where the answers differ from linux-loader's
 //!
-//! `docs/DIFFERENCES.md` of the repository has every difference. Most to be noticed: a command line's capacity is at most 16,384,
-//! and an image and guest memory have at most 2^40 bytes each.
+//! `docs/DIFFERENCES.md` of the repository has every difference. Most to be noticed: a command line's capacity is at most 16,384, an image has
+//! at most 2^40 bytes, and guest memory at most 16 ranges apart from each other.
 
 #![warn(missing_docs)]
 

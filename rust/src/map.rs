@@ -44,6 +44,12 @@ impl Map {
     pub(crate) fn numbers(&self) -> &[u64] {
         &self.numbers
     }
+
+    /// Where its last range ends: the size of the smallest guest memory over which it is good, if it is good over any.
+    pub(crate) fn end(&self) -> u64 {
+        let last = self.numbers.chunks_exact(2).last();
+        last.map_or(0, |pair| pair[0].saturating_add(pair[1]))
+    }
 }
 
 impl FromIterator<(GuestAddress, usize)> for Map {

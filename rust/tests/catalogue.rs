@@ -116,6 +116,16 @@ fn sizes_flags_and_codes_are_those_of_the_header() {
             "REKUSOYEN_BZIMAGE_LOAD_OUT",
             entry::BZIMAGE_LOAD_OUT.to_string(),
         ),
+        ("REKUSOYEN_ELF_PLAN_OUT", entry::ELF_PLAN_OUT.to_string()),
+        ("REKUSOYEN_ELF_PART_OUT", entry::ELF_PART_OUT.to_string()),
+        (
+            "REKUSOYEN_BZIMAGE_PLAN_OUT",
+            entry::BZIMAGE_PLAN_OUT.to_string(),
+        ),
+        (
+            "REKUSOYEN_ARM64_PLAN_OUT",
+            entry::ARM64_PLAN_OUT.to_string(),
+        ),
         (
             "REKUSOYEN_LINE_WORDS_OUT",
             entry::LINE_WORDS_OUT.to_string(),
@@ -141,4 +151,6 @@ fn sizes_flags_and_codes_are_those_of_the_header() {
         "(24 + 2 * REKUSOYEN_LINE_LIMIT)"
     );
     assert_eq!(entry::LINE_SIZE, 24 + 2 * entry::LIMIT);
+    assert_eq!(defined("REKUSOYEN_LONGEST_SLICE"), "((uint64_t)1 << 40)");
+    assert_eq!(entry::LONGEST_SLICE, 1 << 40);
 }

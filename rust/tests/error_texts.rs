@@ -1,5 +1,5 @@
 //! The error enums have linux-loader's errors, no more and no fewer: each match here is without a rest. Their texts are
-//! linux-loader's too, so that a monitor's log stays as it was.
+//! linux-loader's too, so that a monitor's log stays as it was, but for two that it never gives.
 
 use std::error::Error;
 
@@ -121,7 +121,8 @@ fn loader_text(error: &loader::Error) -> String {
 fn bzimage_text(error: &bzimage::Error) -> String {
     let text = match error {
         bzimage::Error::InvalidBzImage => "Invalid bzImage",
-        bzimage::Error::Overflow => "Overflow occurred during an arithmetic operation",
+        // as `Align` below
+        bzimage::Error::Overflow => "Guest memory has more than 16 ranges apart from each other",
         bzimage::Error::ReadBzImageHeader => "Unable to read bzImage header",
         bzimage::Error::ReadBzImageCompressedKernel => "Unable to read bzImage compressed kernel",
         bzimage::Error::SeekBzImageEnd => "Unable to seek bzImage end",
@@ -134,7 +135,8 @@ fn bzimage_text(error: &bzimage::Error) -> String {
 
 fn elf_text(error: &elf::Error) -> String {
     let text = match error {
-        elf::Error::Align => "Invalid alignment",
+        // linux-loader never gives it, so that no log has its text
+        elf::Error::Align => "Guest memory has more than 16 ranges apart from each other",
         elf::Error::BigEndianElfOnLittle => {
             "Trying to load big-endian binary on little-endian machine"
         }

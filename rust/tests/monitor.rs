@@ -3,7 +3,7 @@
 mod images;
 
 use std::fs::File;
-use std::io::{self, Cursor, Read, Seek, SeekFrom, Write};
+use std::io::{Cursor, Read, Seek, Write};
 
 use images::{arm64_image, fresh, fresh_with, pvh_note, BzImageFile, ElfImage, LOADABLE, NOTE};
 use rekusoyen::cmdline;
@@ -12,10 +12,9 @@ use rekusoyen::loader::{
     self, arm64, bzimage, elf, load_cmdline, BzImage, Cmdline, Elf, KernelLoader,
     KernelLoaderResult, PvhBootCapability,
 };
-use vm_memory::bitmap::BitmapSlice;
 use vm_memory::{
     ByteValued, Bytes, GuestAddress, GuestMemoryBackend, GuestMemoryMmap, GuestMemoryRegion,
-    ReadVolatile, VolatileMemoryError, VolatileSlice,
+    ReadVolatile,
 };
 
 const ROOM: usize = 0x4000;
@@ -171,95 +170,6 @@ fn errors_reach_the_monitor() {
     let error = loader::Error::Bzimage(bzimage::Error::InvalidBzImage);
     assert_eq!(refused, Err(StartError::Kernel(error)));
     assert_eq!(content(&memory), fresh_with(0x2001, &[(0x1000, b"elf")]));
-}
-
-/// A reader of an image that fails at what it is told to fail at.
-struct Failing {
-    image: Cursor<Vec<u8>>,
-    at: Step,
-}
-
-#[derive(PartialEq)]
-enum Step {
-    Seek,
-    Read,
-}
-
-impl Failing {
-    fn comes_to(&self, step: Step) -> io::Result<()> {
-        if self.at == step {
-            return Err(io::Error::other("the disk is gone"));
-        }
-        Ok(())
-    }
-}
-
-impl Seek for Failing {
-    fn seek(&mut self, place: SeekFrom) -> io::Result<u64> {
-        self.comes_to(Step::Seek)?;
-        self.image.seek(place)
-    }
-}
-
-impl Read for Failing {
-    fn read(&mut self, bytes: &mut [u8]) -> io::Result<usize> {
-        self.comes_to(Step::Read)?;
-        self.image.read(bytes)
-    }
-}
-
-impl ReadVolatile for Failing {
-    fn read_volatile<B: BitmapSlice>(
-        &mut self,
-        bytes: &mut VolatileSlice<B>,
-    ) -> Result<usize, VolatileMemoryError> {
-        self.comes_to(Step::Read)
-            .map_err(VolatileMemoryError::IOError)?;
-        self.image.read_volatile(bytes)
-    }
-}
-
-#[test]
-fn a_reader_that_fails_has_its_own_error_and_nothing_is_written() {
-    let memory = memory(&[(0, ROOM)]);
-    let failing = |image, at| Failing {
-        image: Cursor::new(image),
-        at,
-    };
-    let elf = |at| Elf::load(&memory, None, &mut failing(elf_image(), at), None);
-    let bz = |at| BzImage::load(&memory, None, &mut failing(bzimage(), at), None);
-    assert_eq!(elf(Step::Seek), Err(elf::Error::SeekElfStart.into()));
-    assert_eq!(elf(Step::Read), Err(elf::Error::ReadKernelImage.into()));
-    assert_eq!(
-        bz(Step::Seek),
-        Err(bzimage::Error::SeekBzImageHeader.into())
-    );
-    assert_eq!(
-        bz(Step::Read),
-        Err(bzimage::Error::ReadBzImageHeader.into())
-    );
-    assert_eq!(content(&memory), fresh(ROOM));
-}
-
-#[test]
-fn only_the_region_at_0_is_room() {
-    let line = Cmdline::try_from("quiet", 10).unwrap();
-    // the kernels and the line begin in the first region and end in the second; then there is no first one
-    for regions in [&[(0, 0x1001), (0x1001, 0x1000)][..], &[(0x1000, 0x1000)]] {
-        let memory = memory(regions);
-        let elf = Elf::load(&memory, None, &mut Cursor::new(elf_image()), None);
-        assert_eq!(elf, Err(elf::Error::ReadKernelImage.into()));
-        let bz = BzImage::load(&memory, None, &mut Cursor::new(bzimage()), None);
-        assert_eq!(bz, Err(bzimage::Error::ReadBzImageCompressedKernel.into()));
-        let put = load_cmdline(&memory, GuestAddress(0x1000), &line);
-        assert_eq!(put, Err(loader::Error::CommandLineOverflow));
-        let size = regions.iter().map(|region| region.1).sum();
-        assert_eq!(content(&memory), fresh(size));
-    }
-    let memory = memory(&[(0, 0x1003), (0x2000, 0x1000)]);
-    let elf = Elf::load(&memory, None, &mut Cursor::new(elf_image()), None);
-    assert_eq!(elf.map(|kernel| kernel.kernel_end), Ok(0x1003));
-    assert_eq!(content(&memory), fresh_with(0x2003, &[(0x1000, b"elf")]));
 }
 
 /// The offset is the base, 0 where none is given; the start of high memory is not looked at.

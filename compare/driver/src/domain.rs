@@ -56,7 +56,7 @@ fn ends_memory(write: &StartWrite) -> bool {
 
 /// The crate's guest memory is a region for each range of a good map, and one at least: its memory library makes no empty region, and has
 /// rules of its own for regions that overlap or fall. Regions that touch are a bad map here and one run of memory there.
-fn has_regions(question: &Question) -> bool {
+pub fn has_regions(question: &Question) -> bool {
     let numbers = question.numbers();
     !numbers.is_empty() && map_of(question).is_some()
 }

@@ -24,7 +24,7 @@ mod pipe;
 mod planted_run;
 pub mod question;
 pub mod report;
-mod rng;
+pub mod rng;
 pub mod run;
 mod sample;
 mod show;

@@ -8,7 +8,7 @@ mod plain;
 mod plain_line;
 mod ranges;
 mod report;
-mod rounds;
+pub mod rounds;
 mod steps;
 mod words;
 mod works;

@@ -1,10 +1,10 @@
-//! Line calls on the published crate.
+//! Line calls on a crate of the published names: the module above says which it is, and which number an error has.
 
-use crate::numbers;
+use super::{number_of, program};
 use driver::answer::CallAnswer;
 use driver::domain;
 use driver::question::Call;
-use linux_loader::cmdline::{Cmdline, Error};
+use program::cmdline::{Cmdline, Error};
 use std::str;
 use vm_memory::GuestAddress;
 
@@ -51,7 +51,7 @@ fn answer_call(call: &Call, line: &mut Cmdline, kept: &mut Cmdline) -> CallAnswe
     };
     match outcome {
         Ok(()) => CallAnswer::Ok,
-        Err(error) => CallAnswer::Refused(numbers::of_cmdline(error)),
+        Err(error) => CallAnswer::Refused(number_of(error)),
     }
 }
 
@@ -65,7 +65,7 @@ fn written(line: &Cmdline, room: u32) -> CallAnswer {
             }
             Ok(bytes)
         }
-        Err(error) => Err(numbers::of_cmdline(error)),
+        Err(error) => Err(number_of(error)),
     };
     CallAnswer::Written {
         outcome,

@@ -1,7 +1,6 @@
 //! The published crate as a backend, asked only inside its domain.
 
 use crate::guest::{content, Guests};
-use crate::lines;
 use crate::numbers;
 use crate::pages;
 use crate::starts;
@@ -17,6 +16,12 @@ use linux_loader::loader::{load_cmdline, BzImage, Elf, KernelLoader, KernelLoade
 use std::io::Cursor;
 use std::panic::{catch_unwind, AssertUnwindSafe};
 use vm_memory::{Address, ByteValued, GuestAddress, GuestMemoryMmap};
+
+use linux_loader as program;
+use numbers::of_cmdline as number_of;
+
+#[path = "lines.rs"]
+mod lines;
 
 #[derive(Default)]
 pub struct Published {

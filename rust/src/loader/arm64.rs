@@ -25,9 +25,11 @@ pub enum Error {
     NoRoomForImage,
     /// The end of the kernel's memory does not fit into 64 bits.
     ImageEndWraps,
-    /// The image or guest memory has more than 2^40 bytes.
+    /// The image or a slice of guest memory has more than 2^40 bytes.
     SliceTooLong,
-    /// A reader cannot be rewound. Never given for bytes.
+    /// Guest memory of vm-memory's regions has more than 16 ranges apart from each other.
+    TooManyRanges,
+    /// A reader cannot go to a place of the image. Never given for bytes.
     SeekImage,
     /// A reader cannot be read. Never given for bytes.
     ReadImage,
@@ -45,7 +47,8 @@ impl fmt::Display for Error {
             Error::NoRoomForImage => "the image has no room in guest memory",
             Error::ImageEndWraps => "the end of the kernel's memory does not fit into 64 bits",
             Error::SliceTooLong => "the image or guest memory has more than 2^40 bytes",
-            Error::SeekImage => "unable to seek to the start of the image",
+            Error::TooManyRanges => "guest memory has more than 16 ranges apart from each other",
+            Error::SeekImage => "unable to seek in the image",
             Error::ReadImage => "unable to read the image",
         };
         write!(f, "Kernel Loader: {desc}")

@@ -18,17 +18,17 @@ use crate::{GuestAddress, Refusal};
 pub enum Error {
     /// Invalid bzImage binary.
     InvalidBzImage,
-    /// Overflow occurred during an arithmetic operation. Never given.
+    /// Guest memory of vm-memory's regions has more than 16 ranges apart from each other. linux-loader never gives it.
     Overflow,
-    /// Unable to read bzImage header.
+    /// Unable to read bzImage header: a reader fails.
     ReadBzImageHeader,
     /// Unable to read bzImage compressed image.
     ReadBzImageCompressedKernel,
-    /// Unable to seek to bzImage end. Never given.
+    /// Unable to seek to bzImage end: a reader fails.
     SeekBzImageEnd,
-    /// Unable to seek to bzImage header.
+    /// Unable to seek to bzImage header: a reader fails.
     SeekBzImageHeader,
-    /// Unable to seek to bzImage compressed kernel: the image or guest memory has more than 2^40 bytes.
+    /// Unable to seek to bzImage compressed kernel: the image or a slice of guest memory has more than 2^40 bytes, or a reader fails.
     SeekBzImageCompressedKernel,
     /// Underflow occurred during an arithmetic operation.
     Underflow,
@@ -38,7 +38,7 @@ impl fmt::Display for Error {
     fn fmt(&self, f: &mut fmt::Formatter<'_>) -> fmt::Result {
         let desc = match self {
             Error::InvalidBzImage => "Invalid bzImage",
-            Error::Overflow => "Overflow occurred during an arithmetic operation",
+            Error::Overflow => "Guest memory has more than 16 ranges apart from each other",
             Error::ReadBzImageHeader => "Unable to read bzImage header",
             Error::ReadBzImageCompressedKernel => "Unable to read bzImage compressed kernel",
             Error::SeekBzImageEnd => "Unable to seek bzImage end",

@@ -9,6 +9,7 @@
 //! ELF images, with the PVH entry that their notes give.
 
 use std::fmt;
+use std::ops::Range;
 
 use super::{told, KernelLoaderResult, Result};
 use crate::entry;
@@ -20,7 +21,7 @@ pub mod start_info;
 /// Why an ELF image was not loaded.
 #[derive(Clone, Copy, Debug, PartialEq, Eq)]
 pub enum Error {
-    /// Invalid alignment. Never given.
+    /// Guest memory of vm-memory's regions has more than 16 ranges apart from each other. linux-loader never gives it.
     Align,
     /// Loaded big endian binary on a little endian platform.
     BigEndianElfOnLittle,
@@ -42,13 +43,13 @@ pub enum Error {
     ReadKernelImage,
     /// Unable to read program header.
     ReadProgramHeader,
-    /// Unable to seek to kernel start: the image or guest memory has more than 2^40 bytes.
+    /// Unable to seek to kernel start: the image or a slice of guest memory has more than 2^40 bytes, or a reader fails.
     SeekKernelStart,
-    /// Unable to seek to ELF start.
+    /// Unable to seek to ELF start or end: a reader fails.
     SeekElfStart,
-    /// Unable to seek to program header: one says that a segment has more bytes in the file than in memory.
+    /// Unable to seek to program header: one says that a segment has more bytes in the file than in memory, or a reader fails.
     SeekProgramHeader,
-    /// Unable to seek to note header. Never given.
+    /// Unable to seek to note header: a reader fails.
     SeekNoteHeader,
     /// Unable to read note header.
     ReadNoteHeader,
@@ -59,7 +60,7 @@ pub enum Error {
 impl fmt::Display for Error {
     fn fmt(&self, f: &mut fmt::Formatter<'_>) -> fmt::Result {
         let desc = match self {
-            Error::Align => "Invalid alignment",
+            Error::Align => "Guest memory has more than 16 ranges apart from each other",
             Error::BigEndianElfOnLittle => {
                 "Trying to load big-endian binary on little-endian machine"
             }
@@ -323,14 +324,15 @@ impl Segment {
 /// assert_eq!((found[0].p_offset, found[0].p_filesz), (100, 20));
 /// ```
 pub fn segments(image: &[u8]) -> impl Iterator<Item = Segment> + '_ {
-    let count = image
-        .get(56..58)
-        .map_or(0, |bytes| u16::from_le_bytes([bytes[0], bytes[1]]));
-    let table = number_at(image, 32).and_then(|place| image.get(usize::try_from(place).ok()?..));
-    let headers = table
+    let Range { start, end } = table(image);
+    let bytes = usize::try_from(start)
+        .ok()
+        .and_then(|start| image.get(start..));
+    let count = (end - start) / PROGRAM_HEADER;
+    let headers = bytes
         .unwrap_or_default()
-        .chunks_exact(56)
-        .take(count.into());
+        .chunks_exact(PROGRAM_HEADER as usize)
+        .take(count as usize);
     headers.map_while(|header| {
         Some(Segment {
             p_type: number_at(header, 0)? as u32,
@@ -340,6 +342,19 @@ pub fn segments(image: &[u8]) -> impl Iterator<Item = Segment> + '_ {
             p_memsz: number_at(header, 40)?,
         })
     })
+}
+
+/// How many bytes a program header has.
+const PROGRAM_HEADER: u64 = 56;
+
+/// Where an image says that its program headers stand; none where it says no such place, or one so far that they pass 64 bits.
+pub(super) fn table(image: &[u8]) -> Range<u64> {
+    let count = image
+        .get(56..58)
+        .map_or(0, |bytes| u16::from_le_bytes([bytes[0], bytes[1]]));
+    let start = number_at(image, 32).unwrap_or(0);
+    let end = start.checked_add(PROGRAM_HEADER * u64::from(count));
+    end.map_or(0..0, |end| start..end)
 }
 
 /// The number of 8 bytes at a place, if they are there.

@@ -1,21 +1,31 @@
-//! Loads over the guest memory of the crate vm-memory, with linux-loader's signatures. Guest memory is the region that begins at
-//! guest address 0: memory in other regions is no room.
+//! Loads over the guest memory of the crate vm-memory, with linux-loader's signatures. Guest memory is all its regions: those that touch are
+//! one range, and what lies between them are holes.
+//!
+//! A load reads what its plan looks at, asks the library for the plan, and has vm-memory copy each part from the image into guest memory,
+//! which also marks its bitmap.
 
-use std::io::{self, Read, Seek};
+use std::io::{Read, Seek, SeekFrom};
 
-use vm_memory::bitmap::Bitmap;
-use vm_memory::{GuestMemoryBackend, GuestMemoryRegion, ReadVolatile};
+use vm_memory::{Bytes, GuestMemoryBackend, ReadVolatile};
 
-use super::{arm64, bzimage, elf, put_line, BzImage, Cmdline, Elf, KernelLoaderResult, Result};
-use crate::lent::{Guest, Options};
+use super::plan::{self, Plan};
+use super::regions::{end_of, map_of, range_with};
+use super::{arm64, bzimage, elf, footprint, told};
+use super::{BzImage, Cmdline, Elf, Error, KernelLoaderResult, Result};
+use crate::lent::{plans, Options};
 use crate::GuestAddress;
 
 /// How a kernel of some format is put into guest memory.
 pub trait KernelLoader {
-    /// Loads the whole of `kernel_image` into guest memory: it is rewound and read to its end before anything is written.
+    /// Loads a kernel from `kernel_image`, whatever its position, into guest memory, which has at most 16 ranges apart from each other.
     ///
-    /// A reader that cannot be rewound is answered with `SeekElfStart`, `SeekBzImageHeader` or `SeekImage`, one that cannot be read with
-    /// `ReadKernelImage`, `ReadBzImageHeader` or `ReadImage`.
+    /// Everything that can be refused is refused before anything is written. Of the image nothing is read but its headers, its notes and
+    /// the bytes that go into guest memory.
+    ///
+    /// A reader that fails gives linux-loader's error for the seek or read that failed. Where that was the copy of a segment or kernel, the segments
+    /// before it are in guest memory, and as much of this one as vm-memory copied. The same holds of an image that gets shorter during the
+    /// load, and of a region that cannot be written. Of an image that changes during the load, headers and notes count as they were when they were
+    /// read, and each byte of the kernel as it is when it is copied.
     fn load<F, M: GuestMemoryBackend>(
         guest_mem: &M,
         kernel_offset: Option<GuestAddress>,
@@ -36,19 +46,15 @@ impl KernelLoader for Elf {
     where
         F: Read + ReadVolatile + Seek,
     {
-        kernel_image
-            .rewind()
-            .map_err(|_| elf::Error::SeekElfStart)?;
-        let image = rest_of(kernel_image).map_err(|_| elf::Error::ReadKernelImage)?;
+        let footprint = footprint::of_elf(kernel_image, kernel_offset.is_none())?;
         let options = Options {
             offset: kernel_offset,
             highmem: highmem_start_address,
         };
-        lend(
-            guest_mem,
-            |guest| elf::load(guest, &image, options).map(|(kernel, _)| kernel),
-            |_| segment_parts(&image, options),
-        )
+        let plan = plan::elf(&map_of(guest_mem), footprint.bytes(), options);
+        drop(footprint);
+        let errors = [elf::Error::SeekKernelStart, elf::Error::ReadKernelImage];
+        copied(guest_mem, kernel_image, plan.map_err(told::by_elf)?, errors)
     }
 }
 
@@ -62,18 +68,20 @@ impl KernelLoader for BzImage {
     where
         F: Read + ReadVolatile + Seek,
     {
-        kernel_image
-            .rewind()
-            .map_err(|_| bzimage::Error::SeekBzImageHeader)?;
-        let image = rest_of(kernel_image).map_err(|_| bzimage::Error::ReadBzImageHeader)?;
+        use bzimage::Error::{ReadBzImageCompressedKernel, SeekBzImageCompressedKernel};
+        let footprint = footprint::of_bzimage(kernel_image)?;
         let options = Options {
             offset: kernel_offset,
             highmem: highmem_start_address,
         };
-        lend(
+        let plan = plan::bzimage(&map_of(guest_mem), footprint.bytes(), options);
+        drop(footprint);
+        let errors = [SeekBzImageCompressedKernel, ReadBzImageCompressedKernel];
+        copied(
             guest_mem,
-            |guest| bzimage::load(guest, &image, options),
-            |kernel| vec![kernel_part(kernel)],
+            kernel_image,
+            plan.map_err(told::by_bzimage)?,
+            errors,
         )
     }
 }
@@ -89,15 +97,36 @@ impl KernelLoader for arm64::Image {
     where
         F: Read + ReadVolatile + Seek,
     {
-        kernel_image.rewind().map_err(|_| arm64::Error::SeekImage)?;
-        let image = rest_of(kernel_image).map_err(|_| arm64::Error::ReadImage)?;
+        let footprint = footprint::of_arm64(kernel_image)?;
         let base = kernel_offset.unwrap_or(GuestAddress(0));
-        lend(
+        let plan = plan::arm64(&map_of(guest_mem), footprint.bytes(), base);
+        drop(footprint);
+        let errors = [arm64::Error::SeekImage, arm64::Error::ReadImage];
+        copied(
             guest_mem,
-            |guest| arm64::load(guest, &image, base),
-            |kernel| vec![(kernel.kernel_load.0, image.len() as u64)],
+            kernel_image,
+            plan.map_err(told::by_arm64)?,
+            errors,
         )
     }
+}
+
+/// Copies the parts of a plan from the image into guest memory. The errors are those of a seek and of a copy that fail.
+fn copied<F: ReadVolatile + Seek, M: GuestMemoryBackend, E: Into<Error> + Copy>(
+    guest_mem: &M,
+    image: &mut F,
+    plan: Plan,
+    [seek, read]: [E; 2],
+) -> Result<KernelLoaderResult> {
+    for part in plan.parts {
+        let place = SeekFrom::Start(part.place);
+        image.seek(place).map_err(|_| seek.into())?;
+        // a part has at most 2^40 bytes
+        guest_mem
+            .read_exact_volatile_from(part.address, image, part.size as usize)
+            .map_err(|_| read.into())?;
+    }
+    Ok(plan.kernel)
 }
 
 /// Writes a line and its closing zero into guest memory. A refusal changes nothing.
@@ -121,62 +150,24 @@ pub fn load_cmdline<M: GuestMemoryBackend>(
     guest_addr: GuestAddress,
     cmdline: &Cmdline,
 ) -> Result<()> {
-    let length = cmdline
+    let text = cmdline
         .as_cstring()
-        .map_or(0, |text| text.as_bytes_with_nul().len() as u64);
-    lend(
-        guest_mem,
-        |guest| put_line(guest, guest_addr, cmdline),
-        |()| vec![(guest_addr.0, length)],
-    )
-}
-
-/// The bytes that a reader still has.
-fn rest_of(reader: &mut impl Read) -> io::Result<Vec<u8>> {
-    let mut bytes = Vec::new();
-    reader.read_to_end(&mut bytes)?;
-    Ok(bytes)
-}
-
-/// A part of guest memory: an address, and how many bytes from there on.
-type Part = (u64, u64);
-
-/// Where the file bytes of the loadable segments of an accepted image go.
-fn segment_parts(image: &[u8], options: Options) -> Vec<Part> {
-    elf::segments(image)
-        .filter(elf::Segment::is_loadable)
-        .filter_map(|segment| Some((options.moved(segment.p_paddr)?, segment.p_filesz)))
-        .collect()
-}
-
-fn kernel_part(kernel: &KernelLoaderResult) -> Part {
-    let start = kernel.kernel_load.0;
-    (start, kernel.kernel_end - start)
-}
-
-/// Lends the region at guest address 0 to a call, and marks in the region's bitmap what the call wrote where it was accepted. A refused
-/// call writes nothing.
-fn lend<M: GuestMemoryBackend, T>(
-    guest_mem: &M,
-    call: impl FnOnce(Guest) -> Result<T>,
-    written: impl Fn(&T) -> Vec<Part>,
-) -> Result<T> {
-    let region = guest_mem.find_region(GuestAddress(0));
-    let Some(bytes) = region.and_then(|region| region.as_volatile_slice().ok()) else {
-        return call(Guest::from(&mut [][..]));
-    };
-    let start = bytes.ptr_guard_mut();
-    // SAFETY: the slice of the region says that these bytes can be read and written while the guard lives, which is past the
-    // call. They are guest memory, to which vm-memory gives nobody a reference. Whether the guest runs meanwhile is the monitor's
-    // affair, as it is with vm-memory's own copies.
-    let answer = call(unsafe { Guest::at(start.as_ptr(), bytes.len()) });
-    let size = bytes.len() as u64;
-    for (address, length) in answer.iter().flat_map(written) {
-        let room = size.saturating_sub(address);
-        // both are at most the region's size, which is a usize
-        bytes
-            .bitmap()
-            .mark_dirty(address.min(size) as usize, length.min(room) as usize);
-    }
-    answer
+        .map_err(|_| Error::InvalidCommandLine)?;
+    let text = text.as_bytes_with_nul();
+    // a line lies within one range, or is refused: the others do not matter, nor how many there are
+    let range = range_with(&map_of(guest_mem), guest_addr);
+    let answer = plans::line_plan(&range, guest_addr, cmdline.bytes());
+    answer.map_err(|refusal| {
+        let last = guest_addr.0.checked_add(text.len() as u64 - 1);
+        match told::by_line(refusal) {
+            // at a hole linux-loader has another error than at the end
+            Error::CommandLineOverflow if last.is_some_and(|last| last < end_of(guest_mem)) => {
+                Error::CommandLineCopy
+            }
+            error => error,
+        }
+    })?;
+    guest_mem
+        .write_slice(text, guest_addr)
+        .map_err(|_| Error::CommandLineCopy)
 }

@@ -20,9 +20,14 @@ pub mod bootparam;
 pub mod bzimage;
 pub mod elf;
 #[cfg(feature = "vm-memory")]
+mod footprint;
+#[cfg(feature = "vm-memory")]
 mod guest_memory;
 mod over_map;
+mod plan;
 mod portions;
+#[cfg(feature = "vm-memory")]
+mod regions;
 mod told;
 
 pub use bzimage::*;
@@ -30,6 +35,7 @@ pub use elf::*;
 #[cfg(feature = "vm-memory")]
 pub use guest_memory::{load_cmdline, KernelLoader};
 pub use over_map::{load_cmdline_into_map, MapError};
+pub use plan::{Part, Plan};
 pub use portions::{Arm64Steps, BzImageSteps, ElfSteps, InSteps, Portions, Step, StepError, Steps};
 
 /// Why a kernel or a line was not put into guest memory.
@@ -41,9 +47,9 @@ pub enum Error {
     Elf(elf::Error),
     /// Invalid command line.
     InvalidCommandLine,
-    /// Failed writing command line to guest memory: it has more than 2^40 bytes.
+    /// Failed writing command line to guest memory: it meets a hole between two of vm-memory's regions, or a region cannot be written.
     CommandLineCopy,
-    /// Command line overflowed guest memory.
+    /// Command line overflowed guest memory, or meets a hole of a map.
     CommandLineOverflow,
     /// Invalid kernel start address.
     InvalidKernelStartAddress,

@@ -59,7 +59,7 @@ impl std::error::Error for MapError {
 type Result<T> = std::result::Result<T, MapError>;
 
 /// The error of a refusal over a map; `told` names all others.
-fn error(refusal: Refusal, told: fn(Refusal) -> Error) -> MapError {
+pub(super) fn error(refusal: Refusal, told: fn(Refusal) -> Error) -> MapError {
     match refusal {
         Refusal::BadMap => MapError::BadMap,
         refusal => MapError::Load(told(refusal)),

@@ -1,5 +1,9 @@
 //! Which error stands for which refusal. Every refusal of a load has a row of its own. An error without a row is never given for
-//! the bytes that are lent: at most a reader of vm-memory's that fails gives it.
+//! the bytes that are lent: at most a reader of vm-memory's that fails gives it. Such a reader may give one with a row, too: then it is
+//! the error that linux-loader gives for it.
+//!
+//! A map that is not good has an error of its own where the caller gives one. Here it stands for the one fault that a map of vm-memory's regions can
+//! have, which is too many ranges.
 
 use super::{arm64, bzimage, elf, Error};
 use crate::Refusal;
@@ -61,6 +65,7 @@ const BY_ELF: &Rows = &[
         Refusal::SliceTooLong,
         Error::Elf(elf::Error::SeekKernelStart),
     ),
+    (Refusal::BadMap, Error::Elf(elf::Error::Align)),
 ];
 
 const BY_BZIMAGE: &Rows = &[
@@ -84,6 +89,7 @@ const BY_BZIMAGE: &Rows = &[
         Refusal::SliceTooLong,
         Error::Bzimage(bzimage::Error::SeekBzImageCompressedKernel),
     ),
+    (Refusal::BadMap, Error::Bzimage(bzimage::Error::Overflow)),
 ];
 
 const BY_ARM64: &Rows = &[
@@ -120,12 +126,19 @@ const BY_ARM64: &Rows = &[
         Refusal::SliceTooLong,
         Error::Arm64(arm64::Error::SliceTooLong),
     ),
+    (Refusal::BadMap, Error::Arm64(arm64::Error::TooManyRanges)),
 ];
 
 const BY_LINE: &Rows = &[
     (Refusal::InvalidCommandLine, Error::InvalidCommandLine),
     (Refusal::CommandLineOverflow, Error::CommandLineOverflow),
-    (Refusal::SliceTooLong, Error::CommandLineCopy),
+    // at a hole of vm-memory's guest memory, as linux-loader tells it
+    (Refusal::CommandLineOverflow, Error::CommandLineCopy),
+    // no error of lines is left over; this one's text says it
+    (
+        Refusal::SliceTooLong,
+        Error::Arm64(arm64::Error::SliceTooLong),
+    ),
 ];
 
 /// The error of an ELF load or note walk.

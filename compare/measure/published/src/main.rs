@@ -1,5 +1,7 @@
 //! The measurement with the published crate, linux-loader 0.14.0 over vm-memory.
 
+mod files;
+
 use linux_loader::cmdline::Cmdline;
 use linux_loader::loader::{self, KernelLoader};
 use measure::contestants::{Contestant, Lines, Load, Putting, Writing};
@@ -10,7 +12,12 @@ use vm_memory::mmap::MmapRegionBuilder;
 use vm_memory::{Address, ByteValued, GuestAddress, GuestMemoryMmap, GuestRegionMmap};
 
 fn main() {
-    measure::run(Some(Box::new(Published)));
+    let words: Vec<_> = std::env::args().skip(1).collect();
+    match words.split_first() {
+        Some((word, images)) if word == "files" => files::print(images),
+        Some((word, [who, image])) if word == "peak" => files::tell_peak(who, image),
+        _ => measure::run(Some(Box::new(Published))),
+    }
 }
 
 struct Published;
