@@ -1,21 +1,24 @@
 -- The sentence "a number is given exactly when its turn comes in the order and its condition holds": a load is accepted exactly where
 -- every test holds, and refused exactly by the first test that fails, with that refusal's number. And the results: the address and the end.
 use Prim.Native.Nat.{ℕ}
-use mathlib.Core.Path.{_≡_, sym, _∙_, ap}
+use mathlib.Core.Path.{_≡_, sym, _∙_, refl, ap}
 use mathlib.Core.List.{List, [], _∷_}
 use Rattle.answers.specs.Catalogue.{numberOf}
 use Rattle.answers.specs.Tests.{Test, AllHold, FirstFails}
+use Rattle.answers.specs.Listing.{contains, Listed, rowListed}
 use Rattle.answers.specs.declared.Refusal.{Refusal}
+use Rattle.answers.proofs.ListingLaws.{first-listed}
 use Rattle.guest.specs.declared.Map.{Map}
+use Rattle.guest.specs.declared.Memory.{Memory}
 use Rattle.guest.specs.Loading.{Plan}
 use Rattle.guest.specs.Room.{memoryOf}
 use Rattle.guest.proofs.LoadingLaws.{all-planned, first-planned}
 use Rattle.arm64.specs.declared.Answer.{Answer}
 use Rattle.arm64.specs.declared.Answer.the-variants.{Loaded, Refused}
 use Rattle.arm64.specs.declared.KernelLoaderResult.{KernelLoaderResult}
-use Rattle.arm64.specs.Answers.{imageNumber, imageValues}
+use Rattle.arm64.specs.Answers.{imageNumber, imageValues, imageNumbers}
 use Rattle.arm64.specs.Image.{startOf, endOf}
-use Rattle.arm64.specs.Plan.{tests, loadedAs, imagePlan, ImageLoads}
+use Rattle.arm64.specs.Plan.{tests, loadedAs, imagePlan, planOf, ImageLoads}
 use Rattle.arm64.proofs.PlanLaws.{plan-loaded, plan-refused}
 
 module _ (image : List ℕ) (base : ℕ) (map : Map) (guest : List ℕ) {r : Answer} {after : List ℕ} (loads : ImageLoads image base map guest r after) where
@@ -47,3 +50,8 @@ module _ (image : List ℕ) (base : ℕ) (map : Map) (guest : List ℕ) {r : Ans
   pub refused-values : {refusal : Refusal} → FirstFails refusal row → (imageNumber r ≡ numberOf refusal) × (imageValues r ≡ [])
   unfolding imageNumber imageValues
   refused-values f = (ap imageNumber (refused-where f), ap imageValues (refused-where f))
+
+-- "Bad input gets its listed number": a refusal has one of these numbers and no other
+pub image-listed : (image : List ℕ) (m : Memory) (base : ℕ) {refusal : Refusal} → planOf image m base .answer ≡ Refused refusal → Listed imageNumbers refusal
+unfolding rowListed contains
+image-listed image m base e = first-listed imageNumbers (tests image m base) refl (plan-refused image m base e)

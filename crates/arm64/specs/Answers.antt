@@ -14,3 +14,7 @@ imageNumber (Refused refusal) = numberOf refusal
 unfoldable pub imageValues : Answer → List ℕ
 imageValues (Loaded k) = k .«kernel_load» .0 ∷ k .«kernel_end» .0 ∷ []
 imageValues (Refused refusal) = []
+
+-- the numbers that a load may answer beside 0, in the order in which they are asked
+abbrev pub imageNumbers : List ℕ
+imageNumbers = 60 ∷ 77 ∷ 81 ∷ 82 ∷ 83 ∷ 84 ∷ 85 ∷ 86 ∷ 87 ∷ 88 ∷ []

@@ -1,6 +1,10 @@
+-- Loads of arm64 Images. In reading order.
+
+-- what contracts are written with
 pub mod Image
 pub mod Plan
 pub mod Answers
-pub mod WholeSlice
 pub mod Steps
+-- what theorems are stated with beside it
 pub mod Footprint
+pub mod WholeSlice

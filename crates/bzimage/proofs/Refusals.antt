@@ -1,20 +1,23 @@
 -- The sentence "a number is given exactly when its turn comes in the order and its condition holds": a load is accepted exactly where
 -- every test holds, and refused exactly by the first test that fails, with that refusal's number.
 use Prim.Native.Nat.{ℕ, _+_}
-use mathlib.Core.Path.{_≡_, sym, _∙_, ap}
+use mathlib.Core.Path.{_≡_, sym, _∙_, refl, ap}
 use mathlib.Core.List.{List, [], _∷_}
 use Rattle.answers.specs.Catalogue.{numberOf}
 use Rattle.answers.specs.Tests.{Test, AllHold, FirstFails}
+use Rattle.answers.specs.Listing.{contains, Listed, rowListed}
 use Rattle.answers.specs.declared.Refusal.{Refusal}
+use Rattle.answers.proofs.ListingLaws.{first-listed}
 use Rattle.guest.specs.declared.Given.{Given}
 use Rattle.guest.specs.declared.Map.{Map}
+use Rattle.guest.specs.declared.Memory.{Memory}
 use Rattle.guest.specs.Loading.{Plan}
 use Rattle.guest.specs.Room.{memoryOf}
 use Rattle.guest.proofs.LoadingLaws.{all-planned, first-planned}
 use Rattle.bzimage.specs.declared.Answer.the-variants.{Loaded, Refused}
 use Rattle.bzimage.specs.declared.KernelLoaderResult.{KernelLoaderResult}
 use Rattle.bzimage.specs.declared.Outcome.{Outcome}
-use Rattle.bzimage.specs.Answers.{bzImageNumber, bzImageValues}
+use Rattle.bzimage.specs.Answers.{bzImageNumber, bzImageValues, bzImageNumbers}
 use Rattle.bzimage.specs.Kernel.{kernelSize, loadOf}
 use Rattle.bzimage.specs.Plan.{tests, loadedAt, refusedAs, kernelPlan, planOf, KernelLoads}
 use Rattle.bzimage.proofs.PlanLaws.{plan-loaded, plan-refused}
@@ -54,3 +57,9 @@ module _ (image : List ℕ) (offset highmem : Given) (map : Map) (guest : List �
   unfolding bzImageNumber bzImageValues refusedAs
   refused-values f =
       (ap (λ (o : Outcome). bzImageNumber (o .answer)) (refused-where f), ap (λ (o : Outcome). bzImageValues (o .answer)) (refused-where f))
+
+-- "Bad input gets its listed number": a refusal has one of these numbers and no other
+pub bzimage-listed : (image : List ℕ) (m : Memory) (offset highmem : Given) {refusal : Refusal} → planOf image m offset highmem .answer .answer ≡ Refused refusal
+    → Listed bzImageNumbers refusal
+unfolding rowListed contains
+bzimage-listed image m offset highmem e = first-listed bzImageNumbers (tests image m offset highmem) refl (plan-refused image m offset highmem e)

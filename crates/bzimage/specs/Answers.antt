@@ -14,3 +14,7 @@ bzImageNumber (Refused refusal) = numberOf refusal
 unfoldable pub bzImageValues : Answer → List ℕ
 bzImageValues (Loaded k) = k .«kernel_load» .0 ∷ k .«kernel_end» .0 ∷ []
 bzImageValues (Refused refusal) = []
+
+-- the numbers that a load may answer beside 0, in the order in which they are asked
+abbrev pub bzImageNumbers : List ℕ
+bzImageNumbers = 60 ∷ 77 ∷ 21 ∷ 22 ∷ 23 ∷ 24 ∷ []

@@ -1,13 +1,17 @@
+-- The kernel command line. In reading order.
+
+-- what contracts are written with
 pub mod Limit
 pub mod Text
-pub mod Fitting
 pub mod Insertion
+pub mod Making
 pub mod Digits
 pub mod Device
-pub mod Making
 pub mod Writing
 pub mod Held
 pub mod InPlace
+-- what theorems are stated with beside it
+pub mod Fitting
 pub mod ZeroPast
 pub mod Growing
 pub mod Keeping

@@ -24,7 +24,7 @@ use Rattle.desk.specs.Printing.{refusedWord, numberLine, saidText, print
 use Rattle.desk.proofs.TableLaws.{places-one, places-two}
 
 -- whichever rule is broken, the refusal is the same
-only-bad-job : {refusal : Refusal} (job : List ℕ) → FirstFails refusal (jobTests job) → refusal ≡ BadJob
+pub only-bad-job : {refusal : Refusal} (job : List ℕ) → FirstFails refusal (jobTests job) → refusal ≡ BadJob
 only-bad-job job (here f e) = sym e
 only-bad-job job (later t (here f e)) = sym e
 only-bad-job job (later t (later t' (here f e))) = sym e

@@ -23,4 +23,5 @@ pub mod FirstNote
 pub mod Parted
 pub mod NotesFootprint
 pub mod Footprint
+pub mod ListedNumbers
 pub mod Outcomes

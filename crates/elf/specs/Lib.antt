@@ -1,16 +1,21 @@
+-- Loads of ELF kernels. In reading order.
+
+-- what contracts are written with
 pub mod Header
 pub mod ProgramHeaders
 pub mod Notes
 pub mod Survey
 pub mod Pouring
 pub mod Load
-pub mod WholeSlice
 pub mod Portions
 pub mod Steps
+-- what theorems are stated with beside it
+pub mod Listing
 pub mod Verdict
-pub mod Rules
-pub mod FirstNote
 pub mod NoteVerdict
+pub mod Rules
 pub mod ByteRule
+pub mod FirstNote
 pub mod Lengthening
 pub mod Footprint
+pub mod WholeSlice

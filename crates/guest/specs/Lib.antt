@@ -1,3 +1,6 @@
+-- Guest memory and what is written into it. In reading order.
+
+-- what contracts are written with
 pub mod Addresses
 pub mod Sizes
 pub mod Maps
@@ -7,5 +10,6 @@ pub mod Stream
 pub mod Loading
 pub mod Parts
 pub mod Steps
+-- what theorems are stated with beside it
 pub mod Runs
 pub mod Parted

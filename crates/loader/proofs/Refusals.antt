@@ -10,16 +10,19 @@ use lib.ListN.{length}
 use Rattle.answers.specs.Pick.{pick}
 use Rattle.answers.specs.Tests.{Test, asked, isOpen, AllHold, FirstFails}
 use Rattle.answers.specs.declared.Refusal.{Refusal}
+use Rattle.answers.specs.Listing.{contains, Listed, rowListed}
+use Rattle.answers.proofs.ListingLaws.{first-listed}
 use Rattle.slugs.specs.Bytes.{has}
 use Rattle.cmdline.specs.Text.{Text}
 use Rattle.cmdline.specs.Writing.{headed, wholeOf, textTests, textGate}
 use Rattle.guest.specs.Loading.{Plan}
 use Rattle.guest.specs.Room.{memoryOf}
 use Rattle.guest.specs.declared.Map.{Map}
+use Rattle.guest.specs.declared.Memory.{Memory}
 use Rattle.guest.proofs.LoadingLaws.{all-planned, first-planned}
 use Rattle.loader.specs.declared.Answer.{Answer}
 use Rattle.loader.specs.declared.Answer.the-variants.{Loaded, Refused}
-use Rattle.loader.specs.Lines.{tests, linePlan, LineLoads, TextRefused, no-boot-args, null-terminator}
+use Rattle.loader.specs.Lines.{tests, linePlan, planOf, LineLoads, lineNumbers, TextRefused, no-boot-args, null-terminator}
 use Rattle.loader.proofs.LinesLaws.{plan-loaded, plan-refused}
 
 module _ (t : Text) (address : ℕ) (map : Map) (guest : List ℕ) {r : Answer} {after : List ℕ} (loads : LineLoads t address map guest r after) where
@@ -54,3 +57,8 @@ when-invalid t e = by-tests (headed (length (t .boot)) (length (t .init))) (not 
     by-tests false b ea eb e = no-boot-args (rw ea)
     by-tests true false ea eb e = null-terminator (rw (ea, eb))
     by-tests true true ea eb e = let opens : isOpen (textGate t) ≡ true = rw (ea, eb) in let w : _≡_ {A = ℕ} 0 1 = cc in absurd (omega arith)
+
+-- "Bad input gets its listed number": a refusal has one of these numbers and no other
+pub line-listed : (t : Text) (m : Memory) (address : ℕ) {refusal : Refusal} → planOf t m address .answer ≡ Refused refusal → Listed lineNumbers refusal
+unfolding rowListed contains
+line-listed t m address e = first-listed lineNumbers (tests t m address) refl (plan-refused t m address e)

@@ -60,6 +60,10 @@ unfoldable pub lineNumber : Answer → ℕ
 lineNumber Loaded = 0
 lineNumber (Refused refusal) = numberOf refusal
 
+-- the numbers that it may have beside 0, in the order in which they are asked
+abbrev pub lineNumbers : List ℕ
+lineNumbers = 60 ∷ 77 ∷ 31 ∷ 32 ∷ []
+
 -- what loading the line of two texts says and leaves, as one list: the number of the answer, then guest memory. The capacity has no part in it
 unfoldable pub loadTold : ℕ → Map → List ℕ → List ℕ → List ℕ → List ℕ
 loadTold address map guest boot init =

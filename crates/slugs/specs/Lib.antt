@@ -1,3 +1,4 @@
+-- The texts that a line is built of. In reading order.
 pub mod Bytes
 pub mod Trimming
 pub mod Keys
