@@ -17,8 +17,8 @@
  * Everything else is tested: every number, every length and every byte gets an answer.
  *
  * What the library does beside. It keeps nothing between calls, has no global state, allocates nothing, makes no system call,
- * and calls nothing but memcpy and memset, which the program provides. Calls may run on many threads at once, each on its own
- * buffers; const arguments may be shared.
+ * and calls nothing but memcpy, memmove and memset, which the program provides. Calls may run on many threads at once, each on its
+ * own buffers; const arguments may be shared.
  */
 #ifndef REKUSOYEN_H
 #define REKUSOYEN_H
@@ -198,10 +198,10 @@ static inline const char *rekusoyen_answer_sentence(uint32_t answer)
 }
 
 /*
- * The stack that a call uses at the most, beside what memcpy and memset themselves use: a load of an image, its plan or a part of it, a note walk, a boot page
- * or a start block, a step of a load, and a call on a line. Measured on x86-64, a load of an image or of a line and its plan, which keep the map there, use
- * less than 1,408 bytes, a step, which hands its state on there, less than 4,096, and every other call less than 640; the calls
- * on a start block, which keep the map there too, were measured on Arm alone, and use less than 2,048.
+ * The stack that a call uses at the most, beside what memcpy, memmove and memset themselves use: a load of an image, its plan or a part of it, a
+ * note walk, a boot page or a start block, a step of a load, and a call on a line. Measured on x86-64, a load of an image or of a line, its plan and
+ * a start block, which keep the map there, use less than 1,408 bytes, a step, which hands its state on there, less than 4,480, and every other call less
+ * than 640.
  */
 #define REKUSOYEN_LOAD_STACK_SIZE ((size_t)2048)
 #define REKUSOYEN_STEP_STACK_SIZE ((size_t)8192)
@@ -282,6 +282,13 @@ static inline const char *rekusoyen_answer_sentence(uint32_t answer)
  *
  * Leaves, accepted: in guest the bytes of every segment that is loaded, a later one over an earlier; in out the six values.
  * Leaves, refused: out and guest as they were. Nothing is written before every program header has passed.
+ *
+ * Time grows with the bytes that are copied, with the program headers, and with the note headers that are looked at. These can be many more than the
+ * image has: every program header of type 4 is walked, and all may be over the same notes. One walk looks at (p_filesz + 11) / 12 note headers at the
+ * most, a load at 65535 times as many; an image of 4 MiB can make it look at 2,863 million, which can take half a minute (docs/SPEED.md). A program that takes
+ * images from strangers can set itself a limit before the load: read the program headers, add up p_filesz over those of type 4, and refuse an image
+ * whose sum is above it. A Linux kernel has one such header, of some hundred bytes; with a limit of 1 MiB a load looks at 147,455 note headers at the
+ * most. With an offset given no notes are walked. A load in steps looks at all of them in its first step.
  */
 uint32_t rekusoyen_elf_load(
     uint8_t *guest, size_t guest_len,

@@ -21,6 +21,11 @@ pub type Putting<'a> = Box<dyn FnMut() + 'a>;
 pub trait Contestant {
     fn name(&self) -> &'static str;
 
+    /// Does it look at the notes of an ELF image?
+    fn walks_notes(&self) -> bool {
+        true
+    }
+
     /// Makes the load of an ELF image ready. High memory starts where the image's kernel goes.
     fn elf<'a>(&self, guest: &'a mut [u8], image: &'a [u8]) -> Load<'a>;
 
@@ -100,6 +105,10 @@ pub struct Plain;
 impl Contestant for Plain {
     fn name(&self) -> &'static str {
         "plain"
+    }
+
+    fn walks_notes(&self) -> bool {
+        false
     }
 
     fn elf<'a>(&self, guest: &'a mut [u8], image: &'a [u8]) -> Load<'a> {

@@ -18,12 +18,7 @@ const SECTOR: usize = 512;
 pub fn elf(segments: usize, size: usize) -> Memory {
     let first = (HEADER + PROGRAM_HEADER * segments).next_multiple_of(PAGE);
     let mut image = bytes(first + segments * size);
-    image[..HEADER + PROGRAM_HEADER * segments].fill(0);
-    put(&mut image, 0, b"\x7fELF\x02\x01\x01");
-    put(&mut image, 24, &START.to_le_bytes());
-    put(&mut image, 32, &(HEADER as u64).to_le_bytes());
-    put(&mut image, 54, &(PROGRAM_HEADER as u16).to_le_bytes());
-    put(&mut image, 56, &(segments as u16).to_le_bytes());
+    put_headers(&mut image, segments);
     for segment in 0..segments {
         let at = HEADER + PROGRAM_HEADER * segment;
         let before = (segment * size) as u64;
@@ -34,6 +29,32 @@ pub fn elf(segments: usize, size: usize) -> Memory {
         put(&mut image, at + 40, &(size as u64).to_le_bytes());
     }
     Memory::from(&image[..])
+}
+
+/// An ELF image of so many note headers, each of which has all the notes that stand behind them: so many, of 12 bytes, with neither name
+/// nor descriptor.
+pub fn notes(headers: usize, notes: usize) -> Memory {
+    const NOTE: usize = 12;
+    let first = HEADER + PROGRAM_HEADER * headers;
+    let mut image = vec![0; first + NOTE * notes];
+    put_headers(&mut image, headers);
+    for header in 0..headers {
+        let at = HEADER + PROGRAM_HEADER * header;
+        put(&mut image, at, &4u32.to_le_bytes());
+        put(&mut image, at + 8, &(first as u64).to_le_bytes());
+        put(&mut image, at + 32, &((NOTE * notes) as u64).to_le_bytes());
+    }
+    Memory::from(&image[..])
+}
+
+/// The ELF header, with so many program headers behind it that are all zeros.
+fn put_headers(image: &mut [u8], headers: usize) {
+    image[..HEADER + PROGRAM_HEADER * headers].fill(0);
+    put(image, 0, b"\x7fELF\x02\x01\x01");
+    put(image, 24, &START.to_le_bytes());
+    put(image, 32, &(HEADER as u64).to_le_bytes());
+    put(image, 54, &(PROGRAM_HEADER as u16).to_le_bytes());
+    put(image, 56, &(headers as u16).to_le_bytes());
 }
 
 /// A bzImage of so many bytes in all, with the boot sector and seven sectors of setup.

@@ -34,6 +34,12 @@ struct Load {
     map: Map,
 }
 
+/// An image of so many headers, and a map of so many ranges.
+pub fn load(headers: usize, ranges: usize) -> (Memory, Map) {
+    let Load { image, map } = Load::new(headers, ranges);
+    (image, map)
+}
+
 impl Load {
     fn new(headers: usize, ranges: usize) -> Load {
         Load {

@@ -49,8 +49,8 @@ fn columns(contestants: usize) -> Vec<Column> {
 
 fn head(columns: &[Column]) {
     let titles: Vec<_> = columns.iter().map(|column| column.title).collect();
-    println!("| work | plain | {} |", titles.join(" | "));
-    println!("|---|---|{}", "---|".repeat(columns.len()));
+    println!("| work | plain | library | {} |", titles.join(" | "));
+    println!("|---|---|---|{}", "---|".repeat(columns.len()));
 }
 
 fn row(work: &Work, times: &Times, columns: &[Column]) {
@@ -58,8 +58,12 @@ fn row(work: &Work, times: &Times, columns: &[Column]) {
         .iter()
         .map(|column| cell(ratio(&times[column.first], &times[column.second])))
         .collect();
-    let plain = duration(spread(times[PLAIN].clone()).median);
-    println!("| {} | {plain} | {} |", work.title, cells.join(" | "));
+    let [plain, library] = [PLAIN, LIBRARY].map(|who| duration(spread(times[who].clone()).median));
+    println!(
+        "| {} | {plain} | {library} | {} |",
+        work.title,
+        cells.join(" | ")
+    );
 }
 
 pub fn cell(ratio: Spread) -> String {
@@ -81,11 +85,14 @@ fn figure(ratio: f64) -> String {
     }
 }
 
-/// Two digits, for orientation.
+/// Three digits or so, for orientation.
 pub fn duration(seconds: f64) -> String {
     match seconds {
-        s if s >= 1e-3 => format!("{:.1} ms", s * 1e3),
-        s => format!("{:.0} µs", s * 1e6),
+        s if s >= 1.0 => format!("{s:.1} s"),
+        s if s >= 1e-2 => format!("{:.1} ms", s * 1e3),
+        s if s >= 1e-3 => format!("{:.2} ms", s * 1e3),
+        s if s >= 1e-4 => format!("{:.0} µs", s * 1e6),
+        s => format!("{:.1} µs", s * 1e6),
     }
 }
 
@@ -123,7 +130,10 @@ mod tests {
 
     #[test]
     fn durations_have_a_unit() {
-        assert_eq!(duration(0.00514), "5.1 ms");
-        assert_eq!(duration(0.0000514), "51 µs");
+        assert_eq!(duration(12.34), "12.3 s");
+        assert_eq!(duration(0.0514), "51.4 ms");
+        assert_eq!(duration(0.00514), "5.14 ms");
+        assert_eq!(duration(0.000514), "514 µs");
+        assert_eq!(duration(0.0000514), "51.4 µs");
     }
 }

@@ -29,7 +29,6 @@ type Reader = fn(&[u8], &mut Lists) -> u64;
 pub const READERS: [(&str, Reader); 2] = [("plain", plain), ("library", library)];
 
 pub fn lines() -> Vec<Line> {
-    let pairs = |length: usize| b"name=\"a value\" ".repeat(length.div_ceil(15))[..length].to_vec();
     let line = |name, title, text| Line { name, title, text };
     vec![
         line("pairs1005", "1,005 bytes of pairs", pairs(1_005)),
@@ -41,6 +40,11 @@ pub fn lines() -> Vec<Line> {
         ),
         line("quotes16000", "16,000 quotes", b"\"".repeat(16_000)),
     ]
+}
+
+/// A line of pairs, of so many bytes.
+pub fn pairs(length: usize) -> Vec<u8> {
+    b"name=\"a value\" ".repeat(length.div_ceil(15))[..length].to_vec()
 }
 
 impl Lists {
@@ -106,7 +110,7 @@ fn check(line: &Line) {
     assert!(told[0] == told[1], "{}: the two differ", line.title);
 }
 
-fn library(line: &[u8], Lists([starts, ends, splits]): &mut Lists) -> u64 {
+pub fn library(line: &[u8], Lists([starts, ends, splits]): &mut Lists) -> u64 {
     let mut out = [0; entry::LINE_WORDS_OUT];
     // SAFETY: each pointer is that of a slice, with its own length, which lives through the call; what is `mut` is lent to it alone.
     let number = unsafe {

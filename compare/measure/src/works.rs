@@ -18,7 +18,6 @@ const SAMPLE: Duration = Duration::from_millis(20);
 pub type Times = Vec<Vec<f64>>;
 
 pub struct Work {
-    pub name: &'static str,
     pub title: &'static str,
     given: Given,
 }
@@ -41,41 +40,47 @@ pub enum Pages {
     Untouched,
 }
 
+/// The name of a work, its title, and what it is given.
+type Row = (&'static str, &'static str, fn() -> Given);
+
+const ROWS: [Row; 8] = [
+    ("large", "ELF, 4 segments of 8 MiB", || elf(4, 8 << 20)),
+    ("bzimage", "bzImage of 14 MiB", || {
+        Given::BzImage(images::bzimage(14 << 20))
+    }),
+    ("pages", "ELF, 1,000 segments of 4 KiB", || elf(1000, 4096)),
+    ("small", "ELF, 1,000 segments of 64 bytes", || elf(1000, 64)),
+    // a line is full after some 960 of these pairs
+    ("lines", "1,000 insertions, into 5 lines", || {
+        Given::Insertions(images::pairs(5, 200))
+    }),
+    ("parse", "try_from of a full line", || {
+        Given::Parsing(images::full_text())
+    }),
+    ("write", "as_cstring of a full line", || {
+        Given::Writing(images::full_text())
+    }),
+    ("put", "load_cmdline of a full line", || {
+        Given::Putting(images::full_text())
+    }),
+];
+
+fn elf(segments: usize, size: usize) -> Given {
+    Given::Elf(images::elf(segments, size))
+}
+
+fn made(&(_, title, given): &Row) -> Work {
+    let given = given();
+    Work { title, given }
+}
+
 pub fn all() -> Vec<Work> {
-    let elf = |segments, size| Given::Elf(images::elf(segments, size));
-    let works = [
-        ("large", "ELF, 4 segments of 8 MiB", elf(4, 8 << 20)),
-        (
-            "bzimage",
-            "bzImage of 14 MiB",
-            Given::BzImage(images::bzimage(14 << 20)),
-        ),
-        ("pages", "ELF, 1,000 segments of 4 KiB", elf(1000, 4096)),
-        ("small", "ELF, 1,000 segments of 64 bytes", elf(1000, 64)),
-        // a line is full after some 960 of these pairs
-        (
-            "lines",
-            "1,000 insertions, into 5 lines",
-            Given::Insertions(images::pairs(5, 200)),
-        ),
-        (
-            "parse",
-            "try_from of a full line",
-            Given::Parsing(images::full_text()),
-        ),
-        (
-            "write",
-            "as_cstring of a full line",
-            Given::Writing(images::full_text()),
-        ),
-        (
-            "put",
-            "load_cmdline of a full line",
-            Given::Putting(images::full_text()),
-        ),
-    ];
-    let work = |(name, title, given)| Work { name, title, given };
-    works.map(work).into()
+    ROWS.iter().map(made).collect()
+}
+
+/// The one of this name: a profiler need not see the others made.
+pub fn named(name: &str) -> Option<Work> {
+    ROWS.iter().find(|row| row.0 == name).map(made)
 }
 
 impl Work {
@@ -255,11 +260,7 @@ mod tests {
             Given::Putting(images::full_text()),
         ];
         for given in given {
-            let work = Work {
-                name: "",
-                title: "",
-                given,
-            };
+            let work = Work { title: "", given };
             let wanted = work.outcome(&Plain);
             assert!(work.outcome(&Library) == wanted);
             assert!(work.outcome(&Spoilt) != wanted);

@@ -1,4 +1,5 @@
 pub mod HeaderLaws
+pub mod ProgramHeadersLaws
 pub mod NotesLaws
 pub mod SurveyLaws
 pub mod PouringLaws
@@ -20,8 +21,8 @@ pub mod HolesUntouched
 pub mod KernelEnd
 pub mod FileSizeStays
 pub mod FirstNote
+pub mod ListedNumbers
 pub mod Parted
 pub mod NotesFootprint
 pub mod Footprint
-pub mod ListedNumbers
 pub mod Outcomes

@@ -5,15 +5,17 @@ use mathlib.Core.Bool.{true, false}
 use mathlib.Core.List.{List, [], _∷_}
 use mathlib.Core.Logic.{⊎-elim}
 use native.Mathlib.Omega.{arith}
+use native.Mathlib.Nat.{add-zero}
 use borrow.Author.Tests.{lt-ltb, le-ltb, leb-true}
 use types.Run.{OneOf}
 use denote.Enum.Declared.{tagOf}
-use lib.ListN.{length}
+use lib.ListN.{length, take, drop}
 use Rattle.answers.specs.Pick.{pick}
 use Rattle.answers.proofs.PickLaws.{pick-with}
 use Rattle.answers.specs.declared.Refusal.{Refusal}
 use Rattle.answers.specs.declared.Refusal.the-variants.{ReadNoteHeader}
 use Rattle.fields.specs.Ranges.{liesWithin}
+use Rattle.fields.proofs.NumbersLaws.{le-within}
 use Rattle.guest.specs.declared.ImagePlace.{ImagePlace}
 use Rattle.reading.specs.Notes.{noteHeaderOf}
 use Rattle.reading.specs.declared.NoteHeader.{NoteHeader}
@@ -28,6 +30,19 @@ use Rattle.elf.specs.declared.notes.Walk.{Walk}
 use Rattle.elf.specs.declared.notes.Walk.the-variants as walk
 use Rattle.elf.specs.declared.notes.Walked.{Walked}
 use Rattle.elf.proofs.notes.Walk.{the-type as the-walk}
+
+-- ---- a note's header
+
+-- read in its own bytes it is the one that stands there
+pub note-within : (image : List ℕ) (at : ℕ) → noteHeaderOf (take (at + noteHeaderSize - at) (drop at image)) 0 ≡ noteHeaderOf image at
+unfolding noteHeaderOf
+note-within image at =
+    rw (
+      le-within 4 at (at + noteHeaderSize - at) image 0 (omega arith),
+      le-within 4 at (at + noteHeaderSize - at) image 4 (omega arith),
+      le-within 4 at (at + noteHeaderSize - at) image 8 (omega arith),
+      add-zero,
+    )
 
 -- ---- how far a note reaches
 

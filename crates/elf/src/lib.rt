@@ -90,8 +90,10 @@ pub fn load(
     match answer {
         Answer::Refused(r) => Answer::Refused(r),
         Answer::Loaded(result) => {
+            let e_phoff = numbers::read_u64(image, 32);
             let e_phnum = numbers::read_u16(image, 56);
-            pouring::pour_segments(guest, image, addresses::amount(kernel_offset), e_phnum);
+            let shift = addresses::amount(kernel_offset);
+            pouring::pour_segments(guest, image, shift, e_phoff, e_phnum);
             Answer::Loaded(result)
         }
     }

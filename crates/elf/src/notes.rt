@@ -70,12 +70,13 @@ fn is_wanted(note: NoteHeader) -> bool
     note.n_namesz == 4
 }
 
-// The note whose header stands at a place.
+// The note whose header stands at a place. The header's 12 bytes are lent on: in a slice of known length no field asks for its bounds.
 fn note_at(image: &[u8], at: u64) -> Turn
     requires { ⌜ at + 12 ≤ length (now image) ⌝ }
     ensures { λ r. ⌜ r ≡ turnAt (now (image .entry)) at ⌝ }
 {
-    let note = reading::notes::read_note_header(image, ImagePlace(at));
+    let from = at as usize;
+    let note = reading::notes::read_note_header(&image[from..from + 12], ImagePlace(0));
     if !is_wanted(note) {
         return skip(note);
     }

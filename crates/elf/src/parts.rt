@@ -35,6 +35,8 @@ pub fn part(memory: Memory, image: &[u8], kernel_offset: Given, i: u64) -> Part
     if numbers::read_u16(image, 56) <= i {
         return parts::nothing();
     }
-    let part = portions::part_at(image, addresses::amount(kernel_offset), i);
+    let shift = addresses::amount(kernel_offset);
+    let e_phoff = numbers::read_u64(image, 32);
+    let part = portions::part_at(image, shift, e_phoff, i);
     parts::kept(image.len() as u64, memory, part)
 }

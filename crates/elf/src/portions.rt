@@ -3,6 +3,7 @@
 ghost use mathlib.Core.Path.{_≡_};
 ghost use Prim.Native.Nat.{_<_};
 ghost use Rattle.guest.specs.Loading.{Loads};
+ghost use Rattle.elf.specs.Header.{e-phoff};
 ghost use Rattle.elf.specs.Portions.{headerPart, partAt, portionAt};
 use crate::program_headers;
 use crate::program_headers::ProgramHeader;
@@ -33,19 +34,15 @@ fn part_of(shift: u64, h: ProgramHeader) -> Part
     }
 }
 
-// The part of program header i, where it stands in the image.
-pub(crate) fn part_at(image: &[u8], shift: u64, i: u64) -> Part
-    requires { ⌜ i < 65536 ⌝ }
+// The part of program header i of those from e_phoff on, where it stands in the image.
+pub(crate) fn part_at(image: &[u8], shift: u64, e_phoff: u64, i: u64) -> Part
+    requires { ⌜ («e_phoff» ≡ e-phoff (now image)) × (i < 65536) ⌝ }
     ensures { λ r. ⌜ r ≡ partAt (now (image .entry)) shift i ⌝ }
 {
-    if !ranges::within(
-        image.len() as u64,
-        numbers::read_u64(image, 32),
-        56 * i + 56,
-    ) {
+    if !ranges::within(image.len() as u64, e_phoff, 56 * i + 56) {
         return parts::nothing();
     }
-    part_of(shift, program_headers::read_header(image, i))
+    part_of(shift, program_headers::read_header(image, e_phoff, i))
 }
 
 // The next bytes, at most `budget` of them, from program header `at` on, `done` bytes of whose segment are copied.
@@ -60,12 +57,13 @@ pub(crate) fn pour_some(
 ) -> Portion
     ensures { λ r. ⌜ Loads (portionAt (now (image .entry)) memory shift at done budget) (now (guest .entry)) r (now (guest .exit)) ⌝ }
 {
+    let e_phoff = numbers::read_u64(image, 32);
     let n = numbers::read_u16(image, 56);
     let mut i = at;
     let mut q = done;
     let mut left = budget;
     while i < n {
-        let part = part_at(image, shift, i);
+        let part = part_at(image, shift, e_phoff, i);
         let copied = parts::copy_part(guest, memory, image, part, q, left);
         let passed = parts::lesser(q, copied.size);
         let k = copied.count;

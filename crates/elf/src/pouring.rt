@@ -11,6 +11,7 @@
 // The pouring: the segments of the program headers, which the survey has let through.
 ghost use mathlib.Core.Path.{_≡_};
 ghost use Rattle.guest.specs.Stream.{pour};
+ghost use Rattle.elf.specs.Header.{e-phoff};
 ghost use Rattle.elf.specs.ProgramHeaders.{HeadersStand};
 ghost use Rattle.elf.specs.Pouring.{segmentStream, streamFrom};
 use crate::program_headers;
@@ -40,14 +41,14 @@ fn pour_segment(guest: &mut [u8], image: &[u8], shift: u64, h: ProgramHeader)
     );
 }
 
-// The segments of the first k program headers, in file order.
-pub(crate) fn pour_segments(guest: &mut [u8], image: &[u8], shift: u64, k: u64)
-    requires { ⌜ HeadersStand (now image) k ⌝ }
+// The segments of the first k program headers from e_phoff on, in file order.
+pub(crate) fn pour_segments(guest: &mut [u8], image: &[u8], shift: u64, e_phoff: u64, k: u64)
+    requires { ⌜ («e_phoff» ≡ e-phoff (now image)) × HeadersStand (now image) k ⌝ }
     ensures { λ _. ⌜ now (guest .exit) ≡ pour (streamFrom k (now (image .entry)) shift 0) (now (guest .entry)) ⌝ }
 {
     let mut i: u64 = 0;
     while i < k {
-        let h = program_headers::read_header(image, i);
+        let h = program_headers::read_header(image, e_phoff, i);
         pour_segment(guest, image, shift, h);
         i += 1;
     }

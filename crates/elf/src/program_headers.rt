@@ -12,6 +12,7 @@
 ghost use mathlib.Core.Path.{_≡_};
 ghost use Prim.Native.Nat.{_+_, _≤_};
 ghost use lib.ListN.{length};
+ghost use Rattle.elf.specs.Header.{e-phoff};
 ghost use Rattle.elf.specs.ProgramHeaders.{headerPlace, headerOf};
 use fields::numbers;
 use guest::GuestAddress;
@@ -26,25 +27,18 @@ pub struct ProgramHeader {
     pub p_memsz: u64,
 }
 
-// The place of program header i.
-fn place(image: &[u8], i: u64) -> u64
-    requires { ⌜ headerPlace (now image) i + 56 ≤ length (now image) ⌝ }
-    ensures { λ r. ⌜ r ≡ headerPlace (now (image .entry)) i ⌝ }
-{
-    numbers::read_u64(image, 32) + 56 * i
-}
-
-// Program header i, which stands in the image.
-pub(crate) fn read_header(image: &[u8], i: u64) -> ProgramHeader
-    requires { ⌜ headerPlace (now image) i + 56 ≤ length (now image) ⌝ }
+// Program header i, which stands in the image, of those from e_phoff on. Its 56 bytes are lent on: in a slice of known length no field asks for its bounds.
+pub(crate) fn read_header(image: &[u8], e_phoff: u64, i: u64) -> ProgramHeader
+    requires { ⌜ («e_phoff» ≡ e-phoff (now image)) × (headerPlace (now image) i + 56 ≤ length (now image)) ⌝ }
     ensures { λ r. ⌜ r ≡ headerOf (now (image .entry)) i ⌝ }
 {
-    let at = place(image, i);
-    let p_type = numbers::read_u32(image, at);
-    let p_offset = numbers::read_u64(image, at + 8);
-    let p_paddr = numbers::read_u64(image, at + 24);
-    let p_filesz = numbers::read_u64(image, at + 32);
-    let p_memsz = numbers::read_u64(image, at + 40);
+    let at = (e_phoff + 56 * i) as usize;
+    let header = &image[at..at + 56];
+    let p_type = numbers::read_u32(header, 0);
+    let p_offset = numbers::read_u64(header, 8);
+    let p_paddr = numbers::read_u64(header, 24);
+    let p_filesz = numbers::read_u64(header, 32);
+    let p_memsz = numbers::read_u64(header, 40);
     ProgramHeader {
         p_type: p_type,
         p_offset: ImagePlace(p_offset),

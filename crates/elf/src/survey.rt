@@ -11,6 +11,7 @@
 // The survey: each program header in turn, up to the first that refuses. Nothing is written before all have passed.
 ghost use mathlib.Core.Path.{_≡_};
 ghost use Prim.Native.Nat.{max};
+ghost use Rattle.elf.specs.Header.{e-phoff};
 ghost use Rattle.elf.specs.ProgramHeaders.{HeadersStand};
 ghost use Rattle.elf.specs.Survey.{endStep, segmentStep, memoryStep, kindStep, loadStep, noteStep, stepOf, firstFound, advanced, blank, surveyFrom};
 ghost use Rattle.elf.specs.Pouring.{planOf};
@@ -176,9 +177,16 @@ fn advance(result: KernelLoaderResult, effect: Effect) -> KernelLoaderResult
     }
 }
 
-// The n program headers, which stand in the image.
-fn survey(image: &[u8], memory: Memory, offset: Given, load: GuestAddress, n: u64) -> Answer
-    requires { ⌜ HeadersStand (now image) n ⌝ }
+// The n program headers from e_phoff on, which stand in the image.
+fn survey(
+    image: &[u8],
+    memory: Memory,
+    offset: Given,
+    load: GuestAddress,
+    e_phoff: u64,
+    n: u64,
+) -> Answer
+    requires { ⌜ («e_phoff» ≡ e-phoff (now image)) × HeadersStand (now image) n ⌝ }
     ensures { λ r. ⌜ r ≡ surveyFrom n (now (image .entry)) memory offset 0 (blank load) ⌝ }
 {
     let mut result = KernelLoaderResult {
@@ -188,7 +196,7 @@ fn survey(image: &[u8], memory: Memory, offset: Given, load: GuestAddress, n: u6
     };
     let mut i: u64 = 0;
     while i < n {
-        let h = program_headers::read_header(image, i);
+        let h = program_headers::read_header(image, e_phoff, i);
         let step = examine(image, memory, offset, h);
         match step {
             Step::Pass(effect) => {
@@ -212,8 +220,9 @@ pub(crate) fn answer_load(image: &[u8], memory: Memory, offset: Given, highmem: 
         Gate::Shut(r) => Answer::Refused(r),
         Gate::Open => {
             let load = addresses::amount(offset) + numbers::read_u64(image, 24);
+            let e_phoff = numbers::read_u64(image, 32);
             let e_phnum = numbers::read_u16(image, 56);
-            survey(image, memory, offset, GuestAddress(load), e_phnum)
+            survey(image, memory, offset, GuestAddress(load), e_phoff, e_phnum)
         }
     }
 }

@@ -1,11 +1,11 @@
 -- Laws of a run of stores, `sets`, as a copy makes it.
-use Prim.Native.Nat.{ℕ, suc, _+_, _≤_, _<_, min}
+use Prim.Native.Nat.{ℕ, suc, _+_, _-_, _≤_, _<_, min}
 use mathlib.Core.Path.{_≡_, refl, sym, ap, _∙_}
 use mathlib.Core.List.{List, [], _∷_, _++_}
 use native.Mathlib.Omega.{arith}
 use native.Mathlib.Decide.{decLe}
-use lib.ListN.{length, set, getD, drop, replicate, length-set, drop-of-length-le}
-use lib.Seq.{sets, set-out, drop-cons, getD-set-other}
+use lib.ListN.{length, set, getD, take, drop, replicate, length-set, length-take, length-drop, take-append-drop, drop-of-length-le}
+use lib.Seq.{sets, set-out, drop-cons, drop-drop, getD-set-same, getD-set-other}
 
 -- stores past the end change nothing
 pub sets-out : (vs l : List ℕ) (i : ℕ) → length l ≤ i → sets l i vs ≡ l
@@ -70,6 +70,44 @@ sets-whole [] [] e = refl
 sets-whole [] (x ∷ l) e = absurd (omega arith)
 sets-whole (v ∷ vs) [] e = absurd (omega arith)
 sets-whole (v ∷ vs) (x ∷ l) e = sets-behind vs l v 0 ∙ ap (λ (t : List ℕ). v ∷ t) (sets-whole vs l (omega arith))
+
+-- ---- a block, by way of an array
+
+-- the first j bytes of the array are those of src from i on
+pub record Taken (block src : List ℕ) (i j : ℕ) : Type 0 where
+  pub taken : (x : ℕ) → x < j → getD block x 0 ≡ getD src (i + x) 0
+
+pub taken-none : (block src : List ℕ) (i : ℕ) → Taken block src i 0
+taken-none block src i = record { taken = λ x h. absurd (omega arith) }
+
+pub taken-next : {block src : List ℕ} {i j next : ℕ} → next ≡ suc j → j < length block → Taken block src i j → Taken (set block j (getD src (i + j) 0)) src i next
+taken-next {block} {src} {i} {j} {next} en h before = record { taken = λ x lt. split x lt (decLe j x) }
+  where
+    split : (x : ℕ) → x < next → Dec (j ≤ x) → getD (set block j (getD src (i + j) 0)) x 0 ≡ getD src (i + x) 0
+    split x lt (yes last) = let same : x ≡ j = omega arith in rw same (getD-set-same block j (getD src (i + j) 0) 0 h)
+    split x lt (no earlier) = getD-set-other block j x (getD src (i + j) 0) 0 (λ e. absurd (omega arith)) ∙ before .taken x (omega arith)
+
+pub taken-all : {block src : List ℕ} {i j n : ℕ} → n ≤ j → Taken block src i j → Taken block src i n
+taken-all h all = record { taken = λ x lt. all .taken x (omega arith) }
+
+-- one more of its bytes
+pub block-next : {block src : List ℕ} (dst : List ℕ) (i k n : ℕ) → k < n → i + n ≤ length src → Taken block src i n
+    → sets (set dst (i + k) (getD block k 0)) (i + (k + 1)) (take (n - (k + 1)) (drop (i + (k + 1)) src)) ≡ sets dst (i + k) (take (n - k) (drop (i + k) src))
+block-next {block} {src} dst i k n lt room all =
+    let after : i + (k + 1) ≡ suc (i + k) = omega arith in
+    let left : n - k ≡ suc (n - (k + 1)) = omega arith in
+    rw (after, left, all .taken k lt, drop-cons src (i + k) 0 (omega arith))
+
+pub block-done : (dst src : List ℕ) (p n k : ℕ) → n ≤ k → sets dst p (take (n - k) (drop p src)) ≡ dst
+block-done dst src p n k h = let none : n - k ≡ 0 = omega arith in rw none
+
+-- a block, then the rest
+pub blocks-next : (src dst : List ℕ) (i k : ℕ) {next : ℕ} → next ≡ i + k → next ≤ length src → sets (sets dst i (take k (drop i src))) next (drop next src) ≡ sets dst i (drop i src)
+blocks-next src dst i k {next} e h =
+    rw e
+    (ap (sets (sets dst i (take k (drop i src))) (i + k)) (sym (drop-drop k i src))
+    ∙ sym (sets-append (take k (drop i src)) (drop k (drop i src)) dst i (i + k) (rw (length-take k (drop i src), length-drop) (omega arith)))
+    ∙ ap (sets dst i) (take-append-drop k (drop i src)))
 
 -- ---- stores from a place on, one after the other
 

@@ -2,15 +2,16 @@
 use Prim.Native.Nat.{ℕ, zero, suc, _+_, _-_, _≤_, _<_, _*_, _/_, _%_, _^_, min}
 use mathlib.Core.Path.{_≡_, refl, ap, sym, _∙_, subst, subst⁻¹, subst₂}
 use mathlib.Core.Bool.{true}
-use mathlib.Core.List.{List, _++_}
+use mathlib.Core.List.{List, [], _∷_, _++_}
 use native.Mathlib.Omega.{arith}
 use native.Mathlib.Decide.{decLe}
-use native.Mathlib.Nat.{pow-suc, one-le-pow, pow-le-pow-right, lt-of-lt-of-le, mod-one, mod-eq-of-lt, mod-lt, div-one, div-eq-of-lt, div-add-mod, div-div-eq-div-mul, not-le-of-lt}
+use native.Mathlib.Nat.{pow-suc, add-suc, mul-suc, mul-right-comm, mul-le-mul-left, one-le-pow, pow-le-pow-right, lt-of-lt-of-le, mod-one, mod-eq-of-lt, mod-lt, div-one, div-eq-of-lt, div-add-mod, div-div-eq-div-mul, not-le-of-lt}
 use borrow.Author.Tests.{lt-ltb, le-ltb, ltb-true, eq-eqb, ne-eqb}
 use lib.Arith.{mod-mul}
 use lib.Dec.{eqb, ltb}
-use lib.ListN.{length, getD, set, List·getD-append, List·getD-eq-default}
-use lib.Seq.{sets}
+use lib.ListN.{length, getD, set, take, drop, List·getD-append, List·getD-eq-default}
+use lib.Pow.{pow-add}
+use lib.Seq.{sets, getD-drop}
 use Rattle.fields.specs.Numbers.{le, ReadAs, leBytes, fits, HasBytes, a-byte}
 use Rattle.fields.proofs.CopyingLaws.{sets-out, sets-none}
 use Rattle.fields.proofs.HasBytesLaws.{stored-at}
@@ -55,6 +56,30 @@ read-next {n} {m} {p} {q} {v} {b} {s} em eq r byte =
 pub fits-next : (n : ℕ) (b : ℕ) {v : ℕ} → n < 8 → v < 256 ^ n → b < 256 → v * 256 + b < 2 ^ 64
 fits-next n b hn hv hb = lt-of-lt-of-le (small-next n hv hb) (pow-le-pow-right {n = 256} (omega arith) hn)
 
+-- ---- a number of two parts, the second behind the first
+
+le-joined : (n m k p q : ℕ) (s : List ℕ) → k ≡ n + m → q ≡ p + n → le k s p ≡ le n s p + 256 ^ n * le m s q
+unfolding le
+le-joined zero m k p q s ek eq =
+    let same : k ≡ m = omega arith in
+    let here : q ≡ p = omega arith in
+    rw (same, here) (omega arith)
+le-joined (suc n) m k p q s ek eq =
+    let more : k ≡ suc (n + m) = omega arith in
+    let rest = le-joined n m (n + m) (suc p) q s refl (omega arith) in
+    rw (more, pow-suc 256 n, mul-right-comm (256 ^ n) 256 (le m s q)) (omega arith)
+
+small-joined : (n m k : ℕ) {a b : ℕ} → k ≡ n + m → a < 256 ^ n → b < 256 ^ m → a + 256 ^ n * b < 256 ^ k
+small-joined n m k {a} {b} e ha hb =
+    let room = mul-le-mul-left (256 ^ n) hb in
+    rw (e, pow-add 256 n m) (omega (arith, room, mul-suc (256 ^ n) b))
+
+pub read-joined : (n m : ℕ) {k p q a b : ℕ} {s : List ℕ} → k ≡ n + m → q ≡ p + n → ReadAs n s p a → ReadAs m s q b → ReadAs k s p (a + 256 ^ n * b)
+read-joined n m {k} {p} {q} {a} {b} {s} ek eq low high = record {
+  value = rw (low .value, high .value) (sym (le-joined n m k p q s ek eq));
+  small = small-joined n m k ek (low .small) (high .small);
+}
+
 -- ---- bytes added at the end
 
 -- a number that stands in s is the same in s and more
@@ -68,6 +93,21 @@ pub le-past : (n : ℕ) (s : List ℕ) (p : ℕ) → length s ≤ p → le n s p
 unfolding le
 le-past zero s p h = refl
 le-past (suc n) s p h = rw (List·getD-eq-default s 0 h, le-past n s (suc p) (omega arith))
+
+-- ---- in a part of the bytes
+
+-- a number that stands in the k bytes from a on is read there as in the whole
+pub le-within : (n a k : ℕ) (s : List ℕ) (p : ℕ) → p + n ≤ k → le n (take k (drop a s)) p ≡ le n s (a + p)
+unfolding le
+le-within zero a k s p h = refl
+le-within (suc n) a k s p h =
+    rw (getD-take k (drop a s) p (omega arith), getD-drop a s p 0, le-within n a k s (suc p) (omega arith), add-suc a p)
+  where
+    getD-take : (k : ℕ) (l : List ℕ) (i : ℕ) → i < k → getD (take k l) i 0 ≡ getD l i 0
+    getD-take zero l i lt = absurd (omega arith)
+    getD-take (suc k) [] i lt = refl
+    getD-take (suc k) (x ∷ l) zero lt = refl
+    getD-take (suc k) (x ∷ l) (suc i) lt = getD-take k l i (omega arith)
 
 -- ---- the bytes of a number
 

@@ -1,6 +1,7 @@
 // Little-endian numbers at a place of a slice. A byte past the end is read as 0, and not written.
 ghost use mathlib.Core.Path.{_≡_};
-ghost use Prim.Native.Nat.{_+_, min};
+ghost use Prim.Native.Nat.{_+_, _≤_, min};
+ghost use lib.ListN.{length};
 ghost use lib.Seq.{sets};
 ghost use Rattle.fields.specs.Numbers.{ReadAs, fits, leBytes};
 use crate::ranges;
@@ -62,21 +63,53 @@ pub fn is_within(v: u64, width: u64) -> bool
     left == 0
 }
 
+// The number of two, four or eight bytes that stand in the slice: in this shape the compiler makes one load of each.
+fn two(s: &[u8], k: usize) -> u64
+    requires { ⌜ k + 2 ≤ length (now s) ⌝ }
+    ensures { λ r. ⌜ ReadAs 2 (now (s .entry)) k r ⌝ }
+{
+    wide(s[k]) + 256 * wide(s[k + 1])
+}
+
+fn four(s: &[u8], k: usize) -> u64
+    requires { ⌜ k + 4 ≤ length (now s) ⌝ }
+    ensures { λ r. ⌜ ReadAs 4 (now (s .entry)) k r ⌝ }
+{
+    two(s, k) + 0x1_0000 * two(s, k + 2)
+}
+
+fn eight(s: &[u8], k: usize) -> u64
+    requires { ⌜ k + 8 ≤ length (now s) ⌝ }
+    ensures { λ r. ⌜ ReadAs 8 (now (s .entry)) k r ⌝ }
+{
+    four(s, k) + 0x1_0000_0000 * four(s, k + 4)
+}
+
+// A number that stands in the slice is one load; one that does not is read byte by byte.
 pub fn read_u16(s: &[u8], at: u64) -> u64
     ensures { λ r. ⌜ ReadAs 2 (now (s .entry)) at r ⌝ }
 {
+    if ranges::within(s.len() as u64, at, 2) {
+        return two(s, at as usize);
+    }
     read_le(s, at, 2)
 }
 
 pub fn read_u32(s: &[u8], at: u64) -> u64
     ensures { λ r. ⌜ ReadAs 4 (now (s .entry)) at r ⌝ }
 {
+    if ranges::within(s.len() as u64, at, 4) {
+        return four(s, at as usize);
+    }
     read_le(s, at, 4)
 }
 
 pub fn read_u64(s: &[u8], at: u64) -> u64
     ensures { λ r. ⌜ ReadAs 8 (now (s .entry)) at r ⌝ }
 {
+    if ranges::within(s.len() as u64, at, 8) {
+        return eight(s, at as usize);
+    }
     read_le(s, at, 8)
 }
 

@@ -5,10 +5,13 @@ use fields::numbers;
 use fields::ranges;
 use guest::ImagePlace;
 
-// The number of `width` bytes at a place; a width above 8 counts as 8.
+// The number of `width` bytes at a place; a width above 8 counts as 8. One of four, as a note's header has three, has a reader of its own.
 pub(crate) fn number_at(image: &[u8], at: ImagePlace, width: u64) -> u64
     ensures { λ r. ⌜ NumberAt (now (image .entry)) (at .0) width r ⌝ }
 {
+    if width == 4 {
+        return numbers::read_u32(image, at.0);
+    }
     numbers::read_le(image, at.0, width)
 }
 

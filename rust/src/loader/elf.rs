@@ -7,6 +7,31 @@
 // SPDX-License-Identifier: Apache-2.0 AND BSD-3-Clause
 
 //! ELF images, with the PVH entry that their notes give.
+//!
+//! # Time
+//!
+//! A load's time grows with the bytes that it copies, with the program headers, and with the note headers that it looks at. These can be
+//! many more than the image has: every program header of type 4 is walked, and all of them may be over the same notes. One walk looks at
+//! `(p_filesz + 11) / 12` note headers at the most, a load at 65,535 times as many; an image of 4 MiB can make it look at 2,863 million,
+//! which can take half a minute (`docs/SPEED.md`). A monitor that takes images from strangers can set itself a limit before the load. A Linux
+//! kernel has one header of type 4, of some hundred bytes.
+//!
+//! ```
+//! use rekusoyen::loader::elf::segments;
+//!
+//! /// The bytes of notes that a load walks over.
+//! fn note_bytes(image: &[u8]) -> u64 {
+//!     let notes = segments(image).filter(|segment| segment.p_type == 4);
+//!     notes.fold(0, |sum, segment| segment.p_filesz.saturating_add(sum))
+//! }
+//!
+//! // two headers over the same 20 bytes of notes
+//! let mut image = [0u8; 196];
+//! for (place, value) in [(32, 64), (54, 56), (56, 2), (64, 4), (72, 176), (96, 20), (120, 4), (128, 176), (152, 20)] {
+//!     image[place] = value;
+//! }
+//! assert_eq!(note_bytes(&image), 40);
+//! ```
 
 use std::fmt;
 use std::ops::Range;

@@ -10,10 +10,12 @@ use Rattle.elf.proofs.load.Tie as tie
 
 pour-segments-requires : tie.Need-pour-segments-requires
 pour-segments-requires c κs =
-    let args = c .before .before .before .before .before .before .before .before .before .args in
-    let loaded = sym (c .before .before .before .before .before .before .answer-load .ensures) ∙ c .before .before .before .before .answer2 .given .1 in
-    rw (c .before .before .read-u16 .ensures .value)
-    (accepted-stand (args .image .now) (memoryOf (args .guest .now) (args .map)) (args .kernel-offset) (args .highmem-start) (subst⁻¹ Accepted loaded is-accepted))
+    let args = c .before .before .before .before .before .before .before .before .before .before .args in
+    let loaded = sym (c .before .before .before .before .before .before .before .answer-load .ensures) ∙ c .before .before .before .before .before .answer2 .given .1 in (
+      c .before .before .before .read-u64 .ensures .value,
+      rw (c .before .before .read-u16 .ensures .value)
+          (accepted-stand (args .image .now) (memoryOf (args .guest .now) (args .map)) (args .kernel-offset) (args .highmem-start) (subst⁻¹ Accepted loaded is-accepted)),
+    )
 
 returns : tie.Need-returns
 returns c =
@@ -23,9 +25,9 @@ returns c =
 
 returns-2 : tie.Need-returns-2
 returns-2 c =
-    let args = c .before .before .before .before .before .before .before .before .before .before .before .before .args in
-    load-accepted (args .image .now) (memoryOf (args .guest .now) (args .map)) (args .kernel-offset) (args .highmem-start) (c .before .before .before .before .before .before .before .before .before .answer-load .ensures) (c .before .before .before .before .before .before .before .answer2 .given .1)
-    (c .before .before .before .before .before .read-u16 .ensures .value) (c .before .before .before .amount .ensures) (c .before .before .pour-segments .ensures)
+    let args = c .before .before .before .before .before .before .before .before .before .before .before .before .before .args in
+    load-accepted (args .image .now) (memoryOf (args .guest .now) (args .map)) (args .kernel-offset) (args .highmem-start) (c .before .before .before .before .before .before .before .before .before .before .answer-load .ensures) (c .before .before .before .before .before .before .before .before .answer2 .given .1)
+    (c .before .before .before .before .before .read-u16 .ensures .value) (c .before .before .before .before .amount .ensures) (c .before .before .pour-segments .ensures)
 
 pub load-spec : {M : Type 1} → statement M
 load-spec =
@@ -34,6 +36,7 @@ load-spec =
     (λ c κs. search needs)
     (λ c. search needs)
     (λ c. search needs)
+    (λ c κs. search needs)
     (λ c κs. search needs)
     (λ c κs. search needs)
     pour-segments-requires

@@ -11,8 +11,8 @@ returns c =
 
 returns-2 : tie.Need-returns-2
 returns-2 c =
-    let args = c .before .before .before .before .before .before .args in
-    part-below (args .image .now) (args .memory) (args .kernel-offset) (args .i) (c .before .before .before .before .read-u16 .ensures .value) (c .before .before .before .if1 .left) (c .before .before .amount .ensures)
+    let args = c .before .before .before .before .before .before .before .args in
+    part-below (args .image .now) (args .memory) (args .kernel-offset) (args .i) (c .before .before .before .before .before .read-u16 .ensures .value) (c .before .before .before .before .if1 .left) (c .before .before .before .amount .ensures)
     (c .before .part-at .ensures) (c .kept .ensures)
 
 pub part-spec : {M : Type 1} → statement M
@@ -22,6 +22,7 @@ part-spec =
     (λ c κs. search needs)
     (λ c κs. search needs)
     returns
+    (λ c κs. search needs)
     (λ c κs. search needs)
     (λ c κs. search needs)
     (λ c κs. search needs)

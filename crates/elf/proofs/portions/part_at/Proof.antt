@@ -17,32 +17,31 @@ use Rattle.elf.proofs.portions.part_at.Tie as tie
 returns : tie.Need-returns
 unfolding partAt pick
 returns c =
-    let args = c .before .before .before .before .before .args in
+    let args = c .before .before .before .before .args in
     let out : liesWithin (length (args .image .now)) (e-phoff (args .image .now)) (56 * args .i + 56) ≡ false =
-    failed (c .before .before .within .ensures ∙ ap (λ p. liesWithin (length (args .image .now)) p (56 * args .i + 56)) (c .before .before .before .read-u64 .ensures .value)) (c .before .if1 .taken) in
+    failed (c .before .before .within .ensures ∙ ap (λ p. liesWithin (length (args .image .now)) p (56 * args .i + 56)) (c .before .before .before .before .pre .0)) (c .before .if1 .taken) in
     rw (out, c .nothing .ensures)
 
 read-header-requires : tie.Need-read-header-requires
 read-header-requires c κs =
-    let args = c .before .before .before .before .args in
+    let args = c .before .before .before .args in
     let stands =
     within-sum (length (args .image .now)) (e-phoff (args .image .now)) (56 * args .i + 56)
-    (held (c .before .within .ensures ∙ ap (λ p. liesWithin (length (args .image .now)) p (56 * args .i + 56)) (c .before .before .read-u64 .ensures .value)) (c .if1 .left)) in
-    omega arith
+    (held (c .before .within .ensures ∙ ap (λ p. liesWithin (length (args .image .now)) p (56 * args .i + 56)) (c .before .before .before .pre .0)) (c .if1 .left)) in
+    (c .before .before .before .pre .0, omega arith)
 
 returns-2 : tie.Need-returns-2
 unfolding partAt pick
 returns-2 c =
-    let args = c .before .before .before .before .before .before .args in
+    let args = c .before .before .before .before .before .args in
     let stands : liesWithin (length (args .image .now)) (e-phoff (args .image .now)) (56 * args .i + 56) ≡ true =
-    held (c .before .before .before .within .ensures ∙ ap (λ p. liesWithin (length (args .image .now)) p (56 * args .i + 56)) (c .before .before .before .before .read-u64 .ensures .value)) (c .before .before .if1 .left) in
+    held (c .before .before .before .within .ensures ∙ ap (λ p. liesWithin (length (args .image .now)) p (56 * args .i + 56)) (c .before .before .before .before .before .pre .0)) (c .before .before .if1 .left) in
     rw (stands, c .part-of .ensures, c .before .read-header .ensures)
 
 pub part-at-spec : {M : Type 1} → statement M
 part-at-spec =
     tie.close
     (tie.spec
-    (λ c κs. search needs)
     (λ c. search needs)
     (λ c. search needs)
     (λ c κs. search needs)

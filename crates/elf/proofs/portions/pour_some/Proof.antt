@@ -12,28 +12,28 @@ use Rattle.elf.proofs.portions.pour_some.Statement.{statement}
 use Rattle.elf.proofs.portions.pour_some.Tie as tie
 
 abbrev Inv-loop : tie.InvT-loop
-Inv-loop guest₀ memory image shift at done budget n i₀ q₀ left₀ guest i q left =
+Inv-loop guest₀ memory image shift at done budget phoff n i₀ q₀ left₀ guest i q left =
     (length guest ≡ length guest₀) × Goes image (partOf image memory shift) n at done budget guest₀ i q left guest
 
 abbrev μ-loop : tie.MeasureT-loop
-μ-loop guest₀ memory image shift at done budget n i₀ q₀ left₀ guest i q left = n - i
+μ-loop guest₀ memory image shift at done budget phoff n i₀ q₀ left₀ guest i q left = n - i
 
 loop-holds : tie.Need-loop-holds Inv-loop μ-loop
 loop-holds c =
-    let args = c .before .before .before .args in (
+    let args = c .before .before .before .before .args in (
       refl,
       goes-start (args .image .now) (partOf (args .image .now) (args .memory) (args .shift)) (c .read-u16 .result) (args .at) (args .done) (args .budget)
           (args .guest .now),
     )
 
 part-at-requires : tie.Need-part-at-requires Inv-loop μ-loop
-part-at-requires c κs = let small = c .before .before .read-u16 .ensures .small in omega arith
+part-at-requires c κs = let small = c .before .before .read-u16 .ensures .small in (c .before .before .before .read-u64 .ensures .value, omega arith)
 
 sub-if1 : tie.Need-sub-if1 Inv-loop μ-loop
 sub-if1 c = let passed = c .before .lesser .ensures in omega arith
 
-add-t20 : tie.Need-add-t20 Inv-loop μ-loop
-add-t20 c =
+add-t21 : tie.Need-add-t21 Inv-loop μ-loop
+add-t21 c =
     record {
       fits =
           short-sum (c .before .before .lesser .result) (c .before .before .before .before .before .copy-part .result .count) (c .before .before .before .before .before .copy-part .result .size) _ (c .if1 .taken) (search needs);
@@ -41,7 +41,7 @@ add-t20 c =
 
 returns : tie.Need-returns Inv-loop μ-loop
 returns c =
-    let args = c .before .before .before .before .before .before .before .before .before .before .before .before .before .args in
+    let args = c .before .before .before .before .before .before .before .before .before .before .before .before .before .before .args in
     let image = args .image .now in
     let part = partOf image (args .memory) (args .shift) in
     let at-turn = c .before .before .before .before .before .before .before .before .before .loop in
@@ -62,7 +62,7 @@ add-i c = let small = c .before .before .before .before .before .before .before 
 
 loop-again : tie.Need-loop-again Inv-loop μ-loop
 loop-again c =
-    let args = c .before .before .before .before .before .before .before .before .before .before .before .before .before .args in
+    let args = c .before .before .before .before .before .before .before .before .before .before .before .before .before .before .args in
     let image = args .image .now in
     let part = partOf image (args .memory) (args .shift) in
     let at-turn = c .before .before .before .before .before .before .before .before .before .loop in
@@ -74,12 +74,12 @@ loop-again c =
           (add-one (at-turn .i)),
     )
 
-sub-t21 : tie.Need-sub-t21 Inv-loop μ-loop
-sub-t21 c = let within = c .before .loop .inv .1 .within in omega arith
+sub-t22 : tie.Need-sub-t22 Inv-loop μ-loop
+sub-t22 c = let within = c .before .loop .inv .1 .within in omega arith
 
 returns-2 : tie.Need-returns-2 Inv-loop μ-loop
 returns-2 c =
-    let args = c .before .before .before .before .before .args in
+    let args = c .before .before .before .before .before .before .args in
     let image = args .image .now in
     let at-end = c .before .loop in
     portion-counted image (args .memory) (args .shift) (args .at) (args .done) (args .budget) (c .before .before .read-u16 .ensures .value)
@@ -93,12 +93,13 @@ pour-some-spec =
     Inv-loop
     μ-loop
     (λ c κs. tt)
+    (λ c κs. tt)
     loop-holds
     part-at-requires
     (λ c κs. tt)
     (λ c κs. tt)
     sub-if1
-    add-t20
+    add-t21
     (λ c. omega arith)
     returns
     sub-left
@@ -106,6 +107,6 @@ pour-some-spec =
     add-i
     (λ c. omega arith)
     loop-again
-    sub-t21
+    sub-t22
     (λ c. omega arith)
     returns-2)

@@ -11,13 +11,13 @@ use Rattle.elf.proofs.pouring.pour_segments.Statement.{statement}
 use Rattle.elf.proofs.pouring.pour_segments.Tie as tie
 
 abbrev Inv-loop : tie.InvT-loop
-Inv-loop guest₀ image shift k i₀ guest i = (i ≤ k) × (length guest ≡ length guest₀) × (pour (streamFrom (k - i) image shift i) guest ≡ pour (streamFrom k image shift 0) guest₀)
+Inv-loop guest₀ image shift phoff k i₀ guest i = (i ≤ k) × (length guest ≡ length guest₀) × (pour (streamFrom (k - i) image shift i) guest ≡ pour (streamFrom k image shift 0) guest₀)
 
 abbrev μ-loop : tie.MeasureT-loop
-μ-loop guest₀ image shift k i₀ guest i = k - i
+μ-loop guest₀ image shift phoff k i₀ guest i = k - i
 
 read-header-requires : tie.Need-read-header-requires Inv-loop μ-loop
-read-header-requires c κs = c .before .before .before .before .pre .stands (c .before .loop .i) (omega arith)
+read-header-requires c κs = (c .before .before .before .before .pre .0, c .before .before .before .before .pre .1 .stands (c .before .loop .i) (omega arith))
 
 loop-again : tie.Need-loop-again Inv-loop μ-loop
 loop-again c =

@@ -19,10 +19,10 @@ add-load c =
 
 survey-requires : tie.Need-survey-requires
 survey-requires c κs =
-    let args = c .before .before .before .before .before .before .before .args in
-    let opened = sym (c .before .before .before .before .before .validate-header .ensures) ∙ c .before .before .before .enum-told .given .1 in
+    let args = c .before .before .before .before .before .before .before .before .args in
+    let opened = sym (c .before .before .before .before .before .before .validate-header .ensures) ∙ c .before .before .before .before .enum-told .given .1 in
     let hold = open-all (tests (args .image .now) (args .memory) (args .offset) (args .highmem)) opened in
-    rw (c .read-u16 .ensures .value) (headers-stand (args .image .now) (args .memory) (args .offset) (args .highmem) hold)
+    (c .before .read-u642 .ensures .value, rw (c .read-u16 .ensures .value) (headers-stand (args .image .now) (args .memory) (args .offset) (args .highmem) hold))
 
 returns : tie.Need-returns
 returns c =
@@ -31,10 +31,10 @@ returns c =
 
 returns-2 : tie.Need-returns-2
 returns-2 c =
-    let args = c .before .before .before .before .before .before .before .before .args in
-    answer-open (args .image .now) (args .memory) (args .offset) (args .highmem) (c .before .before .before .before .before .before .validate-header .ensures)
-    (c .before .before .before .before .enum-told .given .1) (c .survey .ensures) (c .before .read-u16 .ensures .value) (c .before .before .read-u64 .ensures .value)
-    (c .before .before .before .amount .ensures)
+    let args = c .before .before .before .before .before .before .before .before .before .args in
+    answer-open (args .image .now) (args .memory) (args .offset) (args .highmem) (c .before .before .before .before .before .before .before .validate-header .ensures)
+    (c .before .before .before .before .before .enum-told .given .1) (c .survey .ensures) (c .before .read-u16 .ensures .value) (c .before .before .before .read-u64 .ensures .value)
+    (c .before .before .before .before .amount .ensures)
 
 pub answer-load-spec : {M : Type 1} → statement M
 answer-load-spec =
@@ -46,6 +46,7 @@ answer-load-spec =
     (λ c κs. search needs)
     (λ c κs. search needs)
     add-load
+    (λ c κs. search needs)
     (λ c κs. search needs)
     survey-requires
     returns

@@ -10,13 +10,13 @@ use Rattle.elf.proofs.survey.survey.Statement.{statement}
 use Rattle.elf.proofs.survey.survey.Tie as tie
 
 abbrev Inv-loop : tie.InvT-loop
-Inv-loop image memory offset n result₀ i₀ result i = (i ≤ n) × (surveyFrom (n - i) image memory offset i result ≡ surveyFrom n image memory offset 0 result₀)
+Inv-loop image memory offset phoff n result₀ i₀ result i = (i ≤ n) × (surveyFrom (n - i) image memory offset i result ≡ surveyFrom n image memory offset 0 result₀)
 
 abbrev μ-loop : tie.MeasureT-loop
-μ-loop image memory offset n result₀ i₀ result i = n - i
+μ-loop image memory offset phoff n result₀ i₀ result i = n - i
 
 read-header-requires : tie.Need-read-header-requires Inv-loop μ-loop
-read-header-requires c κs = c .before .before .before .pre .stands (c .before .loop .i) (omega arith)
+read-header-requires c κs = (c .before .before .before .pre .0, c .before .before .before .pre .1 .stands (c .before .loop .i) (omega arith))
 
 returns : tie.Need-returns Inv-loop μ-loop
 returns c =

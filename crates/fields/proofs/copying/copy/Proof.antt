@@ -2,10 +2,9 @@
 use Prim.Native.Nat.{_≤_, _-_, min}
 use mathlib.Core.Path.{_≡_, refl, sym, _∙_}
 use native.Mathlib.Omega.{arith}
-use native.Mathlib.Numerals.{add-one}
-use lib.ListN.{length, drop, length-set}
-use lib.Seq.{sets}
-use Rattle.fields.proofs.CopyingLaws.{sets-done, sets-next}
+use lib.ListN.{length, drop}
+use lib.Seq.{sets, length-sets}
+use Rattle.fields.proofs.CopyingLaws.{sets-done, blocks-next}
 use Rattle.fields.proofs.copying.copy.Statement.{statement}
 use Rattle.fields.proofs.copying.copy.Tie as tie
 
@@ -16,11 +15,16 @@ Inv-loop dst₀ src n i₀ dst i =
 abbrev μ-loop : tie.MeasureT-loop
 μ-loop dst₀ src n i₀ dst i = n - i
 
+copy-block-requires : tie.Need-copy-block-requires Inv-loop μ-loop
+copy-block-requires c κs = let k = c .before .lesser2 .ensures in (omega (arith, k), omega (arith, k), omega (arith, k))
+
 loop-again : tie.Need-loop-again Inv-loop μ-loop
 loop-again c =
-    let src = c .before .before .before .before .before .before .args .src .now in
-    let at-turn = c .before .before .loop in
-    (omega arith, omega arith, simp length-set (omega arith), rw add-one (sets-next src (at-turn .dst) (at-turn .i) (omega arith) ∙ at-turn .inv .3))
+    let src = c .before .before .before .before .before .before .before .before .before .before .args .src .now in
+    let turn = c .before .before .before .before .before .before .loop in
+    let k = c .before .before .before .before .lesser2 .ensures in
+    let copied = c .before .before .copy-block .ensures in
+    (turn .inv .0, omega (arith, k), rw (copied, length-sets) (turn .inv .2), rw copied (blocks-next src (turn .dst) (turn .i) (c .before .before .before .before .lesser2 .result) refl (omega (arith, k)) ∙ turn .inv .3))
 
 returns : tie.Need-returns Inv-loop μ-loop
 returns c =
@@ -37,7 +41,8 @@ copy-spec =
     (λ c κs. tt)
     (λ c. (c .lesser .ensures, omega arith, refl, refl))
     (λ c. omega arith)
-    (λ c. omega arith)
+    (λ c κs. tt)
+    copy-block-requires
     (λ c. omega arith)
     (λ c. omega arith)
     loop-again
