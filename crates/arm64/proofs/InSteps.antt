@@ -28,9 +28,7 @@ use Rattle.arm64.specs.declared.Answer.{Answer}
 use Rattle.arm64.specs.declared.Answer.the-variants.{Loaded, Refused}
 use Rattle.arm64.specs.Image.{startOf}
 use Rattle.arm64.specs.Plan.{tests, planOf}
-use Rattle.arm64.specs.Steps.{wholeFile, filePart, partOf, isLoaded, courseOf, heldOf, planFrom, StepSays}
-use Rattle.arm64.specs.declared.steps.State.{State}
-use Rattle.arm64.specs.declared.steps.Stepped.{Stepped}
+use Rattle.arm64.specs.Steps.{wholeFile, filePart, partOf, isLoaded, courseOf}
 use Rattle.arm64.proofs.PlanLaws.{hold-room, hold-start, plan-loaded, loaded-plan, refused-plan, all-bytes, part-whole}
 
 -- whatever the image holds by now, the part stands in it and has room
@@ -65,35 +63,3 @@ module _ (image : List ℕ) (m : Memory) (base : ℕ) where
 
   pub whole-is : wholeOf (courseOf image m base) image ≡ planOf image m base .stream
   whole-is = whole-by (planOf image m base .answer) refl
-
--- ---- a run from a load that is not begun, over one image and one memory
-
-module _ (image : List ℕ) (m : Memory) (base : ℕ) (lent : AllHold (lentTests (length image) m)) (from : steps.Held Answer)
-    (begins : from .progress .stage ≡ Fresh) where
-  abbrev course : steps.Course Answer
-  course = courseOf image m base
-
-  -- every sentence of it
-  pub in-portions : InPortions course image m from (planOf image m base)
-  in-portions = runs.in-portions course image m (part-stands image m base) lent from begins (planOf image m base) (whole-is image m base) refl
-
-  -- a call of `step` by its contract is the next call of such a run, and keeps the base
-  pub step-leaves : {first bs before after : List ℕ} {map : Map} {st : State} {r : Stepped} (b : ℕ) → 0 < b → memoryOf before map ≡ m → st .base .0 ≡ base
-      → StepSays image st b map before r after → Leaves course image m from first bs before (heldOf st)
-      → Leaves course image m from first (b ∷ bs) after (heldOf (r .state))
-  step-leaves {first} {bs} {before} {after} {map} {st} {r} b positive em eb says leaves =
-      let plan = steps.stepPlan course image m (heldOf st) b in
-      let over : Loads (planFrom st plan) before r after =
-      subst (λ (x : Memory). Loads (planFrom st (steps.stepPlan (courseOf image x base) image x (heldOf st) b)) before r after) em
-      (subst (λ (o : ℕ). Loads (planFrom st (steps.stepPlan (courseOf image (memoryOf before map) o) image (memoryOf before map) (heldOf st) b)) before r after) eb says) in
-      subst⁻¹ (Leaves course image m from first (b ∷ bs) after) (ap (λ (x : Stepped). heldOf (x .state)) (over .answer))
-      (after-step b positive (record { answer = refl; memory = over .memory }) leaves)
-
-  -- and a call that is refused, with whatever it is lent, is one of its calls that are no steps
-  pub refused-leaves : (image' : List ℕ) (map : Map) {first bs before after : List ℕ} {st : State} {r : Stepped} (b : ℕ) {refusal : Refusal}
-      → askedAll Open (steps.stepTests (st .progress) (length image') (memoryOf before map) b) ≡ Shut refusal → StepSays image' st b map before r after
-      → Leaves course image m from first bs before (heldOf st) → Leaves course image m from first bs after (heldOf (r .state))
-  refused-leaves image' map {first} {bs} {before} {after} {st} {r} b shut says leaves =
-      subst⁻¹ (Leaves course image m from first bs after) (ap (λ (x : Stepped). heldOf (x .state)) (says .answer))
-      (after-refused (courseOf image' (memoryOf before map) (st .base .0)) image' (memoryOf before map) b shut
-      (record { answer = refl; memory = says .memory }) leaves)

@@ -4,7 +4,6 @@ pub mod Refusals
 pub mod MoreRoom
 pub mod HolesUntouched
 pub mod WholeSlice
-pub mod StepsLaws
 pub mod InSteps
 pub mod Parted
 pub mod Footprint

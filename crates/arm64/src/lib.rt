@@ -9,7 +9,6 @@ use guest::copying;
 
 pub mod parts;
 mod plan;
-pub mod steps;
 
 // An image that is loaded: where its file begins in guest memory, and where the memory ends that the kernel asks for.
 pub struct KernelLoaderResult {

@@ -32,9 +32,7 @@ use Rattle.bzimage.specs.declared.Answer.the-variants.{Loaded, Refused}
 use Rattle.bzimage.specs.declared.Outcome.{Outcome}
 use Rattle.bzimage.specs.Kernel.{setupSize, kernelSize, kernelOf, loadOf}
 use Rattle.bzimage.specs.Plan.{planOf}
-use Rattle.bzimage.specs.Steps.{kernelPart, partOf, isLoaded, courseOf, heldOf, planFrom, StepSays}
-use Rattle.bzimage.specs.declared.steps.State.{State}
-use Rattle.bzimage.specs.declared.steps.Stepped.{Stepped}
+use Rattle.bzimage.specs.Steps.{kernelPart, partOf, isLoaded, courseOf}
 use Rattle.bzimage.proofs.KernelLaws.{kernel-bytes}
 use Rattle.bzimage.proofs.PlanLaws.{hold-room, plan-loaded, loaded-plan, refused-plan}
 
@@ -86,37 +84,3 @@ module _ (image : List ℕ) (m : Memory) (offset highmem : Given) where
 
   pub whole-is : wholeOf (courseOf image m offset highmem) image ≡ planOf image m offset highmem .stream
   whole-is = whole-by (planOf image m offset highmem .answer .answer) refl
-
--- ---- a run from a load that is not begun, over one image and one memory
-
-module _ (image : List ℕ) (m : Memory) (offset highmem : Given) (lent : AllHold (lentTests (length image) m)) (from : steps.Held Outcome)
-    (begins : from .progress .stage ≡ Fresh) where
-  abbrev course : steps.Course Outcome
-  course = courseOf image m offset highmem
-
-  -- every sentence of it
-  pub in-portions : InPortions course image m from (planOf image m offset highmem)
-  in-portions = runs.in-portions course image m (part-stands image m offset) lent from begins (planOf image m offset highmem) (whole-is image m offset highmem) refl
-
-  -- a call of `step` by its contract is the next call of such a run, and keeps the options
-  pub step-leaves : {first bs before after : List ℕ} {map : Map} {st : State} {r : Stepped} (b : ℕ) → 0 < b → memoryOf before map ≡ m
-      → st .«kernel_offset» ≡ offset → st .«highmem_start» ≡ highmem → StepSays image st b map before r after
-      → Leaves course image m from first bs before (heldOf st)
-      → Leaves course image m from first (b ∷ bs) after (heldOf (r .state))
-  step-leaves {first} {bs} {before} {after} {map} {st} {r} b positive em eo eh says leaves =
-      let plan = steps.stepPlan course image m (heldOf st) b in
-      let over : Loads (planFrom st plan) before r after =
-      subst (λ (x : Memory). Loads (planFrom st (steps.stepPlan (courseOf image x offset highmem) image x (heldOf st) b)) before r after) em
-      (subst (λ (h : Given). Loads (planFrom st (steps.stepPlan (courseOf image (memoryOf before map) offset h) image (memoryOf before map) (heldOf st) b)) before r after) eh
-      (subst (λ (o : Given). Loads (planFrom st (steps.stepPlan (courseOf image (memoryOf before map) o (st .«highmem_start»)) image (memoryOf before map) (heldOf st) b)) before r after) eo says)) in
-      subst⁻¹ (Leaves course image m from first (b ∷ bs) after) (ap (λ (x : Stepped). heldOf (x .state)) (over .answer))
-      (after-step b positive (record { answer = refl; memory = over .memory }) leaves)
-
-  -- and a call that is refused, with whatever it is lent, is one of its calls that are no steps
-  pub refused-leaves : (image' : List ℕ) (map : Map) {first bs before after : List ℕ} {st : State} {r : Stepped} (b : ℕ) {refusal : Refusal}
-      → askedAll Open (steps.stepTests (st .progress) (length image') (memoryOf before map) b) ≡ Shut refusal → StepSays image' st b map before r after
-      → Leaves course image m from first bs before (heldOf st) → Leaves course image m from first bs after (heldOf (r .state))
-  refused-leaves image' map {first} {bs} {before} {after} {st} {r} b shut says leaves =
-      subst⁻¹ (Leaves course image m from first bs after) (ap (λ (x : Stepped). heldOf (x .state)) (says .answer))
-      (after-refused (courseOf image' (memoryOf before map) (st .«kernel_offset») (st .«highmem_start»)) image' (memoryOf before map) b shut
-      (record { answer = refl; memory = says .memory }) leaves)

@@ -12,5 +12,4 @@ pub mod Parted
 pub mod Footprint
 pub mod Outcomes
 pub mod EmptyKernel
-pub mod StepsLaws
 pub mod InSteps

@@ -22,7 +22,6 @@ mod kernel;
 pub mod parts;
 mod plan;
 pub mod setup_header;
-pub mod steps;
 
 // A kernel that is loaded: where it begins in guest memory, and where it ends.
 pub struct KernelLoaderResult {

@@ -15,7 +15,6 @@ pub mod Lengthened
 pub mod MoreRoom
 pub mod WholeSlice
 pub mod PortionsLaws
-pub mod StepsLaws
 pub mod InSteps
 pub mod HolesUntouched
 pub mod KernelEnd

@@ -21,24 +21,12 @@ use Rattle.guest.proofs.PartsLaws.{kept-none, kept-fits}
 use Rattle.elf.specs.Header.{e-phoff, e-phnum, programHeaderSize}
 use Rattle.elf.specs.ProgramHeaders.{headerPlace, headerOf}
 use Rattle.elf.specs.Pouring.{segmentStream, streamFrom, wholeStream, planOf}
-use Rattle.elf.specs.Portions.{headerPart, partAt, partOf, partBelow, portionAt}
+use Rattle.elf.specs.Portions.{headerPart, partAt, partOf, partBelow}
 use Rattle.elf.specs.Rules.{SegmentFits, SegmentRules}
 use Rattle.elf.specs.Verdict.{Accepted}
 use Rattle.elf.specs.declared.program_headers.ProgramHeader.{ProgramHeader}
 use Rattle.elf.proofs.FitsLaws.{accepted-stand, accepted-fit}
 use Rattle.elf.proofs.PouringLaws.{stream-none, stream-empty, stream-loads}
-
--- the count of program headers, as it was read
-pub portion-counted : (image : List ℕ) (m : Memory) (shift i q budget : ℕ) {n : ℕ} {before after : List ℕ} {r : Portion} → n ≡ e-phnum image
-    → Loads (portionOf n image (partOf image m shift) i q budget) before r after → Loads (portionAt image m shift i q budget) before r after
-portion-counted image m shift i q budget {n} {before} {after} {r} e loads =
-    subst (λ k. Loads (portionOf k image (partOf image m shift) i q budget) before r after) e loads
-
--- what was copied of the part of program header i
-pub part-copied : (image : List ℕ) (m : Memory) (shift i : ℕ) {p : Part} {skip budget size count : ℕ} {before after : List ℕ} → p ≡ partAt image shift i
-    → PartCopied image (keptPart (length image) m p) skip budget before size count after → PartCopied image (partOf image m shift i) skip budget before size count after
-part-copied image m shift i {p} {skip} {budget} {size} {count} {before} {after} e copied =
-    subst (λ x. PartCopied image (keptPart (length image) m x) skip budget before size count after) e copied
 
 -- the part of any number, as code asks for it
 module _ (image : List ℕ) (m : Memory) (offset : Given) (i : ℕ) where
@@ -50,10 +38,6 @@ module _ (image : List ℕ) (m : Memory) (offset : Given) (i : ℕ) where
       → r ≡ keptPart (length image) m p → r ≡ partBelow image m offset i
   unfolding partBelow pick
   part-below en lt es ep er = rw (lt-ltb i (e-phnum image) (subst (λ x. i < x) en lt), er, ep, es)
-
--- a place within a part is a number of 64 bits
-pub short-sum : (passed k size top : ℕ) → k < size - passed → size < top → passed + k < top
-short-sum passed k size top short small = omega arith
 
 -- ---- of an accepted load the parts are the segments
 

@@ -37,7 +37,3 @@ partOf image m shift i = keptPart (length image) m (partAt image shift i)
 -- the same of any number: from the count of program headers on there is no part
 unfoldable pub partBelow : List ℕ → Memory → Given → ℕ → Part
 partBelow image m offset i = pick (ltb i (e-phnum image)) (partOf image m (amountOf offset) i) noPart
-
--- a portion from program header i on, q bytes of whose segment are done
-abbrev pub portionAt : List ℕ → Memory → ℕ → ℕ → ℕ → ℕ → Plan Portion
-portionAt image m shift i q budget = portionOf (e-phnum image) image (partOf image m shift) i q budget

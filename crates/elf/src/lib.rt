@@ -29,7 +29,6 @@ pub mod parts;
 mod portions;
 mod pouring;
 mod program_headers;
-pub mod steps;
 mod survey;
 
 // The entry point for the PVH boot protocol, and the descriptor of the note that gives it: its place in the image, and its size as the note

@@ -5,7 +5,4 @@ pub mod StreamLaws
 pub mod PartLaws
 pub mod LoadingLaws
 pub mod PartsLaws
-pub mod StepsLaws
-pub mod InSteps
-pub mod PartedLaws
 pub mod Outcomes

@@ -34,18 +34,6 @@ use Rattle.guest.proofs.parts.nothing.Kinds as nothing-kinds
 use Rattle.guest.proofs.parts.nothing.Reads as nothing-reads
 use Rattle.guest.proofs.parts.kept.Kinds as kept-kinds
 use Rattle.guest.proofs.parts.kept.Reads as kept-reads
-use Rattle.guest.proofs.parts.pour_one.Kinds as pour-one-kinds
-use Rattle.guest.proofs.parts.pour_one.Reads as pour-one-reads
-use Rattle.guest.proofs.steps.is_fresh.Kinds as is-fresh-kinds
-use Rattle.guest.proofs.steps.is_fresh.Reads as is-fresh-reads
-use Rattle.guest.proofs.steps.ask.Kinds as steps-ask-kinds
-use Rattle.guest.proofs.steps.ask.Reads as steps-ask-reads
-use Rattle.guest.proofs.steps.begin.Kinds as steps-begin-kinds
-use Rattle.guest.proofs.steps.begin.Reads as steps-begin-reads
-use Rattle.guest.proofs.steps.moved.Kinds as moved-kinds
-use Rattle.guest.proofs.steps.moved.Reads as moved-reads
-use Rattle.guest.proofs.steps.fresh.Kinds as steps-fresh-kinds
-use Rattle.guest.proofs.steps.fresh.Reads as steps-fresh-reads
 use Rattle.guest.proofs.parts.copy_part.Kinds as copy-part-kinds
 use Rattle.guest.proofs.parts.copy_part.Reads as copy-part-reads
 use Rattle.guest.specs.declared.parts.Copied.{Copied}
@@ -97,24 +85,6 @@ nothing-one κs a z z' ws ws' p q = (meet p q, refl)
 
 pub kept-one : OneOutcome 0 kept-kinds.ps kept-kinds.r kept-reads.Post
 kept-one κs a z z' ws ws' p q = (meet p q, refl)
-
-pub pour-one-one : OneOutcome 2 pour-one-kinds.ps pour-one-kinds.r pour-one-reads.Post
-pour-one-one κs a z z' ws ws' p q = (meet (p .answer) (q .answer), first (meet (p .memory) (q .memory)))
-
-pub is-fresh-one : OneOutcome 0 is-fresh-kinds.ps is-fresh-kinds.r is-fresh-reads.Post
-is-fresh-one κs a z z' ws ws' p q = (meet p q, refl)
-
-pub steps-ask-one : OneOutcome 0 steps-ask-kinds.ps steps-ask-kinds.r steps-ask-reads.Post
-steps-ask-one κs a z z' ws ws' p q = (meet p q, refl)
-
-pub steps-begin-one : OneOutcome 0 steps-begin-kinds.ps steps-begin-kinds.r steps-begin-reads.Post
-steps-begin-one κs a z z' ws ws' p q = (meet p q, refl)
-
-pub moved-one : OneOutcome 0 moved-kinds.ps moved-kinds.r moved-reads.Post
-moved-one κs a z z' ws ws' p q = (meet p q, refl)
-
-pub steps-fresh-one : OneOutcome 0 steps-fresh-kinds.ps steps-fresh-kinds.r steps-fresh-reads.Post
-steps-fresh-one κs a z z' ws ws' p q = (meet p q, refl)
 
 copied-same : {x y : Copied} → x .size ≡ y .size → x .count ≡ y .count → x ≡ y
 copied-same {x} {y} es ec = ap (λ n. record { size = n; count = x .count }) es ∙ ap (λ n. record { size = y .size; count = n }) ec

@@ -1,6 +1,4 @@
--- Guest memory and what is written into it. In reading order.
-
--- what contracts are written with
+-- Guest memory, what is written into it, and what a load answers. In reading order.
 pub mod Addresses
 pub mod Sizes
 pub mod Maps
@@ -9,7 +7,4 @@ pub mod Lent
 pub mod Stream
 pub mod Loading
 pub mod Parts
-pub mod Steps
--- what theorems are stated with beside it
-pub mod Runs
-pub mod Parted
+pub mod Answers

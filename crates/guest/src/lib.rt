@@ -1,4 +1,6 @@
-// Guest memory, as a lent slice with a map: its addresses, its size, its ranges, its room, and what is written into it.
+// Guest memory, as a slice with a map: its addresses, its size, its ranges, its room, and what is written into it; and what a load answers.
+use answers::Refusal;
+
 pub mod addresses;
 pub mod copying;
 pub mod lent;
@@ -6,7 +8,6 @@ pub mod maps;
 pub mod parts;
 pub mod room;
 pub mod sizes;
-pub mod steps;
 
 // A guest address and a place of the image are different kinds of number: neither can be passed for the other.
 
@@ -50,18 +51,30 @@ pub struct Portion {
     pub all: bool,
 }
 
-// How far a load in portions is: not begun, copying, or answered.
-pub enum Stage {
-    Fresh,
-    Copying,
-    Done,
+// The entry point for the PVH boot protocol, and the descriptor of the note that gives it: its place in the image, and its size as the
+// note header has it.
+pub struct PvhNote {
+    pub entry: GuestAddress,
+    pub place: ImagePlace,
+    pub size: u64,
 }
 
-// A load between two steps: its stage, the first step's image length and memory, and the next part with the bytes of it that are done.
-pub struct Progress {
-    pub stage: Stage,
-    pub image_len: u64,
-    pub memory: Memory,
-    pub at: u64,
-    pub done: u64,
+// Is there an entry point for the PVH boot protocol? Only an ELF image has one.
+pub enum PvhBootCapability {
+    PvhEntryPresent(PvhNote),
+    PvhEntryNotPresent,
+    PvhEntryIgnored,
+}
+
+// Where a kernel was loaded: its load address, the end of its memory, and its PVH entry.
+pub struct KernelLoaderResult {
+    pub kernel_load: GuestAddress,
+    pub kernel_end: GuestAddress,
+    pub pvh_boot_cap: PvhBootCapability,
+}
+
+// What a load answers, whatever the format of its image.
+pub enum Answer {
+    Loaded(KernelLoaderResult),
+    Refused(Refusal),
 }

@@ -2,13 +2,11 @@
 ghost use mathlib.Core.Path.{_≡_};
 ghost use Prim.Native.Nat.{min};
 ghost use lib.ListN.{length};
-ghost use Rattle.guest.specs.Parts.{keptPart, noPart, PartCopied, portionOf};
-ghost use Rattle.guest.specs.Loading.{Loads};
+ghost use Rattle.guest.specs.Parts.{keptPart, noPart, PartCopied};
 use crate::GuestAddress;
 use crate::ImagePlace;
 use crate::Memory;
 use crate::Part;
-use crate::Portion;
 use crate::copying;
 use crate::room;
 use fields::ranges;
@@ -77,58 +75,5 @@ pub fn copy_part(
     Copied {
         size: size,
         count: n,
-    }
-}
-
-// The next bytes of one part, at most `budget` of them, `done` of which are copied.
-fn pour_part(
-    guest: &mut [u8],
-    memory: Memory,
-    image: &[u8],
-    part: Part,
-    done: u64,
-    budget: u64,
-) -> Portion
-    ensures { λ r. ⌜ Loads (portionOf 1 (now (image .entry)) (λ _. keptPart (length (now (image .entry))) memory part) 0 done budget) (now (guest .entry)) r (now (guest .exit)) ⌝ }
-{
-    let copied = copy_part(guest, memory, image, part, done, budget);
-    let passed = lesser(done, copied.size);
-    let k = copied.count;
-    if k < copied.size - passed {
-        return Portion {
-            at: 0,
-            done: passed + k,
-            copied: budget,
-            all: false,
-        };
-    }
-    Portion {
-        at: 1,
-        done: 0,
-        copied: budget - (budget - k),
-        all: true,
-    }
-}
-
-// The next bytes of a load that is one part: at part 0 `done` of its bytes are copied, and past it nothing is left.
-pub fn pour_one(
-    guest: &mut [u8],
-    memory: Memory,
-    image: &[u8],
-    part: Part,
-    at: u64,
-    done: u64,
-    budget: u64,
-) -> Portion
-    ensures { λ r. ⌜ Loads (portionOf 1 (now (image .entry)) (λ _. keptPart (length (now (image .entry))) memory part) at done budget) (now (guest .entry)) r (now (guest .exit)) ⌝ }
-{
-    if at == 0 {
-        return pour_part(guest, memory, image, part, done, budget);
-    }
-    Portion {
-        at: at,
-        done: 0,
-        copied: 0,
-        all: true,
     }
 }
