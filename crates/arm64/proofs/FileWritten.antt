@@ -11,9 +11,9 @@ use Rattle.guest.specs.Room.{memoryOf}
 use Rattle.guest.specs.Stream.{pour, Stands}
 use Rattle.guest.proofs.StreamLaws.{poured-stands}
 use Rattle.guest.proofs.LoadingLaws.{nothing-written}
-use Rattle.arm64.specs.declared.Answer.{Answer}
-use Rattle.arm64.specs.declared.Answer.the-variants.{Loaded, Refused}
-use Rattle.arm64.specs.declared.KernelLoaderResult.{KernelLoaderResult}
+use Rattle.guest.specs.declared.Answer.{Answer}
+use Rattle.guest.specs.declared.Answer.the-variants.{Loaded, Refused}
+use Rattle.guest.specs.declared.KernelLoaderResult.{KernelLoaderResult}
 use Rattle.arm64.specs.Image.{startOf}
 use Rattle.arm64.specs.Plan.{planOf, ImageLoads}
 use Rattle.arm64.proofs.PlanLaws.{hold-room, plan-loaded, loaded-plan, refused-plan}

@@ -16,9 +16,9 @@ use Rattle.arm64.specs.Footprint.{lookedAt, SameFootprint}
 use Rattle.arm64.specs.Image.{textOffset, imageSize}
 use Rattle.arm64.specs.Plan.{tests, imagePlan, planOf, ImageLoads}
 use Rattle.arm64.specs.Steps.{filePart, partOf, courseOf}
-use Rattle.arm64.specs.declared.Answer.{Answer}
-use Rattle.arm64.specs.declared.Answer.the-variants.{Loaded, Refused}
-use Rattle.arm64.specs.declared.KernelLoaderResult.{KernelLoaderResult}
+use Rattle.guest.specs.declared.Answer.{Answer}
+use Rattle.guest.specs.declared.Answer.the-variants.{Loaded, Refused}
+use Rattle.guest.specs.declared.KernelLoaderResult.{KernelLoaderResult}
 use Rattle.arm64.proofs.Parted.{parts-are, loads-by}
 
 module _ (s t : List ℕ) (same : SameFootprint s t) where

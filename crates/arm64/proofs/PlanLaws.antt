@@ -24,9 +24,9 @@ use Rattle.guest.specs.Room.{room, memoryOf}
 use Rattle.guest.specs.Stream.{bytesAt, pour, streamAt}
 use Rattle.guest.proofs.RoomLaws.{room-beyond}
 use Rattle.guest.proofs.LoadingLaws.{tests-open, tests-shut, all-planned, first-planned, behind-with}
-use Rattle.arm64.specs.declared.Answer.{Answer}
-use Rattle.arm64.specs.declared.Answer.the-variants.{Loaded, Refused}
-use Rattle.arm64.specs.declared.KernelLoaderResult.{KernelLoaderResult}
+use Rattle.guest.specs.declared.Answer.{Answer}
+use Rattle.guest.specs.declared.Answer.the-variants.{Loaded, Refused}
+use Rattle.guest.specs.declared.KernelLoaderResult.{KernelLoaderResult}
 use Rattle.arm64.specs.Image.{textOffset, imageSize, startOf, endOf}
 use Rattle.arm64.specs.Plan.{imageTests, placeTests, tests, loadedAs, imagePlan, planOf, ImageLoads}
 use Rattle.arm64.specs.Steps.{filePart}

@@ -13,10 +13,10 @@ use Rattle.guest.specs.declared.Memory.{Memory}
 use Rattle.guest.specs.Loading.{Plan}
 use Rattle.guest.specs.Room.{memoryOf}
 use Rattle.guest.proofs.LoadingLaws.{all-planned, first-planned}
-use Rattle.arm64.specs.declared.Answer.{Answer}
-use Rattle.arm64.specs.declared.Answer.the-variants.{Loaded, Refused}
-use Rattle.arm64.specs.declared.KernelLoaderResult.{KernelLoaderResult}
-use Rattle.arm64.specs.Answers.{imageNumber, imageValues, imageNumbers}
+use Rattle.guest.specs.declared.Answer.{Answer}
+use Rattle.guest.specs.declared.Answer.the-variants.{Loaded, Refused}
+use Rattle.guest.specs.declared.KernelLoaderResult.{KernelLoaderResult}
+use Rattle.arm64.specs.Answers.{answerNumber, answerValues, imageNumbers}
 use Rattle.arm64.specs.Image.{startOf, endOf}
 use Rattle.arm64.specs.Plan.{tests, loadedAs, imagePlan, planOf, ImageLoads}
 use Rattle.arm64.proofs.PlanLaws.{plan-loaded, plan-refused}
@@ -43,13 +43,13 @@ module _ (image : List ℕ) (base : ℕ) (map : Map) (guest : List ℕ) {r : Ans
 
   -- ---- the same by the catalogue: no number with the address and the end, or the refusal's number alone
 
-  pub accepted-values : AllHold row → (imageNumber r ≡ 0) × (imageValues r ≡ startOf image base ∷ endOf image base ∷ [])
-  unfolding imageNumber imageValues
-  accepted-values h = (ap imageNumber (accepted-where h), ap imageValues (accepted-where h))
+  pub accepted-values : AllHold row → (answerNumber r ≡ 0) × (answerValues r ≡ startOf image base ∷ endOf image base ∷ [])
+  unfolding answerNumber imageValues
+  accepted-values h = (ap answerNumber (accepted-where h), ap answerValues (accepted-where h))
 
-  pub refused-values : {refusal : Refusal} → FirstFails refusal row → (imageNumber r ≡ numberOf refusal) × (imageValues r ≡ [])
-  unfolding imageNumber imageValues
-  refused-values f = (ap imageNumber (refused-where f), ap imageValues (refused-where f))
+  pub refused-values : {refusal : Refusal} → FirstFails refusal row → (answerNumber r ≡ numberOf refusal) × (answerValues r ≡ [])
+  unfolding answerNumber imageValues
+  refused-values f = (ap answerNumber (refused-where f), ap answerValues (refused-where f))
 
 -- "Bad input gets its listed number": a refusal has one of these numbers and no other
 pub image-listed : (image : List ℕ) (m : Memory) (base : ℕ) {refusal : Refusal} → planOf image m base .answer ≡ Refused refusal → Listed imageNumbers refusal

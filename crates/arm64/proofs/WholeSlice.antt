@@ -19,7 +19,7 @@ use Rattle.guest.specs.Loading.{behindGate, behindTests}
 use Rattle.guest.specs.Room.{wholeOf}
 use Rattle.guest.specs.Sizes.{allowed}
 use Rattle.guest.proofs.RoomLaws.{whole-room, whole-lent}
-use Rattle.arm64.specs.declared.Answer.the-variants.{Refused}
+use Rattle.guest.specs.declared.Answer.the-variants.{Refused}
 use Rattle.arm64.specs.Image.{headerSize, startOf}
 use Rattle.arm64.specs.Plan.{fieldTests, imageTests, placeTests, imagePlan, planOf}
 use Rattle.arm64.specs.WholeSlice.{placesWithin, testsWithin, planWithin}

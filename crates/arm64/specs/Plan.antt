@@ -14,9 +14,9 @@ use Rattle.guest.specs.Lent.{lentTests}
 use Rattle.guest.specs.Loading.{Plan, Loads, behindTests}
 use Rattle.guest.specs.Room.{room, memoryOf}
 use Rattle.guest.specs.Stream.{streamAt}
-use Rattle.arm64.specs.declared.Answer.{Answer}
-use Rattle.arm64.specs.declared.Answer.the-variants.{Loaded, Refused}
-use Rattle.arm64.specs.declared.KernelLoaderResult.{KernelLoaderResult}
+use Rattle.guest.specs.declared.Answer.{Answer}
+use Rattle.guest.specs.declared.Answer.the-variants.{Loaded, Refused}
+use Rattle.guest.specs.declared.KernelLoaderResult.{KernelLoaderResult}
 use Rattle.arm64.specs.Image.{headerSize, textOffset, imageSize, flags, magic, theMagic, alignment, startOf, endOf}
 
 -- the tests of the header's fields, and of the base

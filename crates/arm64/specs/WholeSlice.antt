@@ -8,8 +8,8 @@ use Rattle.answers.specs.declared.Refusal.the-variants.{SliceTooLong, NoRoomFor
 use Rattle.fields.specs.Ranges.{liesWithin, fits64}
 use Rattle.guest.specs.Loading.{Plan, behindTests}
 use Rattle.guest.specs.Sizes.{allowed}
-use Rattle.arm64.specs.declared.Answer.{Answer}
-use Rattle.arm64.specs.declared.Answer.the-variants.{Refused}
+use Rattle.guest.specs.declared.Answer.{Answer}
+use Rattle.guest.specs.declared.Answer.the-variants.{Refused}
 use Rattle.arm64.specs.Image.{imageSize, startOf}
 use Rattle.arm64.specs.Plan.{imageTests, imagePlan}
 

@@ -2,7 +2,7 @@
 ghost use mathlib.Core.Path.{_≡_};
 ghost use Rattle.arm64.specs.Plan.{planOf};
 ghost use Rattle.arm64.specs.Steps.{partOf};
-use crate::Answer;
+use guest::Answer;
 use crate::plan;
 use guest::GuestAddress;
 use guest::Memory;

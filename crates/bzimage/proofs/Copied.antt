@@ -15,9 +15,9 @@ use Rattle.guest.specs.Room.{room, memoryOf}
 use Rattle.guest.specs.Stream.{pour, Stands}
 use Rattle.guest.proofs.StreamLaws.{poured-stands}
 use Rattle.guest.proofs.LoadingLaws.{nothing-written}
-use Rattle.bzimage.specs.declared.Answer.the-variants.{Loaded, Refused}
-use Rattle.bzimage.specs.declared.KernelLoaderResult.{KernelLoaderResult}
-use Rattle.bzimage.specs.declared.Outcome.{Outcome}
+use Rattle.guest.specs.declared.Answer.the-variants.{Loaded, Refused}
+use Rattle.guest.specs.declared.KernelLoaderResult.{KernelLoaderResult}
+use Rattle.guest.specs.declared.Answer.{Answer}
 use Rattle.bzimage.specs.Copied.{Copied}
 use Rattle.bzimage.specs.Kernel.{setupSize, kernelOf}
 use Rattle.bzimage.specs.Plan.{planOf, KernelLoads}
@@ -42,11 +42,11 @@ stands-copied s address stands =
 
 -- ---- of the load's contract
 
-module _ (image : List ℕ) (offset highmem : Given) (map : Map) (guest : List ℕ) {r : Outcome} {after : List ℕ} (loads : KernelLoads image offset highmem map guest r after) where
-  planned : planOf image (memoryOf guest map) offset highmem .answer .answer ≡ r .answer
-  planned = sym (ap (λ (o : Outcome). o .answer) (loads .answer))
+module _ (image : List ℕ) (offset highmem : Given) (map : Map) (guest : List ℕ) {r : Answer} {after : List ℕ} (loads : KernelLoads image offset highmem map guest r after) where
+  planned : planOf image (memoryOf guest map) offset highmem .answer ≡ r
+  planned = sym (loads .answer)
 
-  pub accepted-copies : {k : KernelLoaderResult} → r .answer ≡ Loaded k → Copied image (k .«kernel_load» .0) guest after
+  pub accepted-copies : {k : KernelLoaderResult} → r ≡ Loaded k → Copied image (k .«kernel_load» .0) guest after
   accepted-copies {k} e =
       let loaded = plan-loaded image (memoryOf guest map) offset highmem (planned ∙ e) in
       let len = length-kernel image in
@@ -54,9 +54,9 @@ module _ (image : List ℕ) (offset highmem : Given) (map : Map) (guest : List �
       λ some. rw (len, loaded .1) (hold-room image (memoryOf guest map) offset highmem (loaded .0) (omega arith)) in
       stands-copied image (k .«kernel_load» .0)
       (poured-stands (kernelOf image) (k .«kernel_load» .0) guest (memoryOf guest map) has (omega arith)
-      (loads .memory ∙ ap (λ (p : Plan Outcome). pour (p .stream) guest) (loaded-plan image (memoryOf guest map) offset highmem (planned ∙ e))))
+      (loads .memory ∙ ap (λ (p : Plan Answer). pour (p .stream) guest) (loaded-plan image (memoryOf guest map) offset highmem (planned ∙ e))))
 
-  pub refused-untouched : {refusal : Refusal} → r .answer ≡ Refused refusal → after ≡ guest
+  pub refused-untouched : {refusal : Refusal} → r ≡ Refused refusal → after ≡ guest
   refused-untouched e =
       nothing-written (planOf image (memoryOf guest map) offset highmem) guest after loads
-      (ap (λ (p : Plan Outcome). p .stream) (refused-plan image (memoryOf guest map) offset highmem (planned ∙ e)))
+      (ap (λ (p : Plan Answer). p .stream) (refused-plan image (memoryOf guest map) offset highmem (planned ∙ e)))

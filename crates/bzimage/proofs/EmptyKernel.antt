@@ -15,9 +15,9 @@ use Rattle.guest.specs.Loading.{Plan}
 use Rattle.guest.specs.Room.{memoryOf}
 use Rattle.guest.specs.Stream.{streamAt}
 use Rattle.guest.proofs.LoadingLaws.{nothing-written, behind-with}
-use Rattle.bzimage.specs.declared.Outcome.{Outcome}
+use Rattle.guest.specs.declared.Answer.{Answer}
 use Rattle.bzimage.specs.Kernel.{kernelSize, kernelOf, loadOf}
-use Rattle.bzimage.specs.Plan.{imageTests, roomTests, tests, loadedAt, refusedAs, kernelPlan, planOf, KernelLoads}
+use Rattle.bzimage.specs.Plan.{imageTests, roomTests, tests, loadedAt, Refused, kernelPlan, planOf, KernelLoads}
 use Rattle.bzimage.proofs.KernelLaws.{length-kernel}
 use Rattle.bzimage.proofs.PlanLaws.{room-for-none}
 use Rattle.bzimage.proofs.Refusals.{accepted-where}
@@ -26,7 +26,7 @@ no-bytes : (vs : List ℕ) → length vs ≡ 0 → vs ≡ []
 no-bytes [] e = refl
 no-bytes (v ∷ vs) e = absurd (omega arith)
 
-module _ (image : List ℕ) (offset highmem : Given) (map : Map) (guest : List ℕ) {r : Outcome} {after : List ℕ} (loads : KernelLoads image offset highmem map guest r after)
+module _ (image : List ℕ) (offset highmem : Given) (map : Map) (guest : List ℕ) {r : Answer} {after : List ℕ} (loads : KernelLoads image offset highmem map guest r after)
     (empty : kernelSize image ≡ 0) where
   -- where the tests of the image hold once, with any offset and memory
   pub accepted-anywhere : (other : Given) (m : Memory) → AllHold (tests image m other highmem) → AllHold (lentTests (length image) (memoryOf guest map))
@@ -46,5 +46,5 @@ module _ (image : List ℕ) (offset highmem : Given) (map : Map) (guest : List �
   empty-untouched =
       let none = no-bytes (kernelOf image) (length-kernel image ∙ empty) in
       nothing-written (planOf image (memoryOf guest map) offset highmem) guest after loads
-      (behind-with refusedAs (tests image (memoryOf guest map) offset highmem) (kernelPlan image (loadOf image offset)) (λ (p : Plan Outcome). p .stream ≡ [])
+      (behind-with Refused (tests image (memoryOf guest map) offset highmem) (kernelPlan image (loadOf image offset)) (λ (p : Plan Answer). p .stream ≡ [])
       (λ _. ap (streamAt (loadOf image offset .0)) none) (λ _ _. refl))

@@ -19,12 +19,12 @@ use Rattle.guest.proofs.PartedLaws.{same-leave}
 use Rattle.bzimage.specs.Footprint.{SameFootprint}
 use Rattle.bzimage.specs.Header.{bytesFrom, headerOf}
 use Rattle.bzimage.specs.Kernel.{sectorsOf, setupSize, kernelSize, startOf, loadOf}
-use Rattle.bzimage.specs.Plan.{tests, refusedAs, loadedAt, kernelPlan, planOf, KernelLoads}
+use Rattle.bzimage.specs.Plan.{tests, Refused, loadedAt, kernelPlan, planOf, KernelLoads}
 use Rattle.bzimage.specs.SetupHeader.{headerStart, headerSize, setupSects, headerMagic, version, loadflags, code32Start}
 use Rattle.bzimage.specs.Steps.{partOf, courseOf}
-use Rattle.bzimage.specs.declared.Answer.the-variants.{Loaded}
-use Rattle.bzimage.specs.declared.KernelLoaderResult.{KernelLoaderResult}
-use Rattle.bzimage.specs.declared.Outcome.{Outcome}
+use Rattle.guest.specs.declared.Answer.the-variants.{Loaded}
+use Rattle.guest.specs.declared.KernelLoaderResult.{KernelLoaderResult}
+use Rattle.guest.specs.declared.Answer.{Answer}
 use Rattle.bzimage.proofs.Parted.{parts-are, loads-by}
 
 bytes-same : (s t : List ℕ) (n p : ℕ) → Agree s t p n → bytesFrom n s p ≡ bytesFrom n t p
@@ -81,7 +81,7 @@ module _ (s t : List ℕ) (same : SameFootprint s t) where
     outcome-same = ap (loadedAt s) load-same ∙ loaded-same (loadOf t offset)
 
     pub plan-same : planOf s m offset highmem .answer ≡ planOf t m offset highmem .answer
-    plan-same = answer-same refusedAs (kernelPlan s (loadOf s offset)) (kernelPlan t (loadOf t offset)) tests-same outcome-same
+    plan-same = answer-same Refused (kernelPlan s (loadOf s offset)) (kernelPlan t (loadOf t offset)) tests-same outcome-same
 
     pub part-same : partOf s m offset ≡ partOf t m offset
     part-same = rw (same .lengths, start-same, setup-same, size-same)
@@ -91,11 +91,11 @@ module _ (s t : List ℕ) (same : SameFootprint s t) where
 
 -- ---- a load by the part of another image that has the same footprint
 
-pub planned-elsewhere : (image sparse : List ℕ) (offset highmem : Given) → SameFootprint image sparse → (map : Map) (before after : List ℕ) {r : Outcome}
-    {k : KernelLoaderResult} → KernelLoads image offset highmem map before r after → r .answer ≡ Loaded k
+pub planned-elsewhere : (image sparse : List ℕ) (offset highmem : Given) → SameFootprint image sparse → (map : Map) (before after : List ℕ) {r : Answer}
+    {k : KernelLoaderResult} → KernelLoads image offset highmem map before r after → r ≡ Loaded k
     → (r ≡ planOf sparse (memoryOf before map) offset highmem .answer) × (after ≡ copied image (partOf sparse (memoryOf before map) offset) before)
 unfolding copiedFrom
 planned-elsewhere image sparse offset highmem same map before after loads is =
     let m = memoryOf before map in
     same-leave (courseOf image m offset highmem) image m (planOf image m offset highmem) (parts-are image m offset highmem) before loads
-    (loads-by image m offset highmem (sym (ap (λ (o : Outcome). o .answer) (loads .answer)) ∙ is)) (courseOf sparse m offset highmem) (same-plan image sparse same m offset highmem)
+    (loads-by image m offset highmem (sym (loads .answer) ∙ is)) (courseOf sparse m offset highmem) (same-plan image sparse same m offset highmem)

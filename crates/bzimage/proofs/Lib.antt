@@ -10,6 +10,6 @@ pub mod Refusals
 pub mod Returned
 pub mod Parted
 pub mod Footprint
-pub mod Outcomes
+pub mod Answers
 pub mod EmptyKernel
 pub mod InSteps

@@ -24,11 +24,11 @@ use Rattle.guest.specs.Room.{room, memoryOf, Grows}
 use Rattle.guest.specs.Stream.{bytesAt, pour, streamAt}
 use Rattle.guest.proofs.RoomLaws.{room-size}
 use Rattle.guest.proofs.LoadingLaws.{tests-open, tests-shut, all-planned, first-planned, behind-with}
-use Rattle.bzimage.specs.declared.Answer.the-variants.{Loaded, Refused}
-use Rattle.bzimage.specs.declared.KernelLoaderResult.{KernelLoaderResult}
-use Rattle.bzimage.specs.declared.Outcome.{Outcome}
+use Rattle.guest.specs.declared.Answer.the-variants.{Loaded, Refused}
+use Rattle.guest.specs.declared.KernelLoaderResult.{KernelLoaderResult}
+use Rattle.guest.specs.declared.Answer.{Answer}
 use Rattle.bzimage.specs.Kernel.{setupSize, kernelSize, startOf, loadOf}
-use Rattle.bzimage.specs.Plan.{imageTests, roomFor, roomTests, tests, loadedAs, loadedAt, refusedAs, kernelPlan, planOf, KernelLoads}
+use Rattle.bzimage.specs.Plan.{imageTests, roomFor, roomTests, tests, loadedAs, loadedAt, Refused, kernelPlan, planOf, KernelLoads}
 use Rattle.bzimage.proofs.KernelLaws.{kernel-bytes}
 
 -- ---- room for the kernel
@@ -56,7 +56,7 @@ module _ (s : List ℕ) (m : Memory) (offset highmem : Given) where
   abbrev row : List Test
   row = tests s m offset highmem
 
-  abbrev kernel : Plan Outcome
+  abbrev kernel : Plan Answer
   kernel = kernelPlan s (loadOf s offset)
 
   -- a kernel of some bytes that passed the tests has room
@@ -80,60 +80,60 @@ module _ (s : List ℕ) (m : Memory) (offset highmem : Given) where
           omega (arith, at)
 
   pub plan-open : {gate : Gate} → gate ≡ askedAll Open row → gate ≡ Open → planOf s m offset highmem ≡ kernel
-  plan-open eg e = tests-open refusedAs row kernel (sym eg ∙ e)
+  plan-open eg e = tests-open Refused row kernel (sym eg ∙ e)
 
-  pub plan-shut : {gate : Gate} {refusal : Refusal} → gate ≡ askedAll Open row → gate ≡ Shut refusal → planOf s m offset highmem ≡ refusedPlan refusedAs refusal
-  plan-shut eg e = tests-shut refusedAs row kernel (sym eg ∙ e)
+  pub plan-shut : {gate : Gate} {refusal : Refusal} → gate ≡ askedAll Open row → gate ≡ Shut refusal → planOf s m offset highmem ≡ refusedPlan Refused refusal
+  plan-shut eg e = tests-shut Refused row kernel (sym eg ∙ e)
 
   -- a plan, by its answer: one that loads passed all tests, and one that refuses failed one
-  loaded-at : {k : KernelLoaderResult} → kernel .answer .answer ≡ Loaded k → k .«kernel_load» ≡ loadOf s offset
+  loaded-at : {k : KernelLoaderResult} → kernel .answer ≡ Loaded k → k .«kernel_load» ≡ loadOf s offset
   unfolding loadedAt
   loaded-at {k} e =
       let same : _≡_ {A = KernelLoaderResult} (loadedAs s (loadOf s offset)) k = cc in
       ap (λ (q : KernelLoaderResult). q .«kernel_load») (sym same)
 
-  pub plan-loaded : {k : KernelLoaderResult} → planOf s m offset highmem .answer .answer ≡ Loaded k → AllHold row × (k .«kernel_load» ≡ loadOf s offset)
-  unfolding refusedAs
+  pub plan-loaded : {k : KernelLoaderResult} → planOf s m offset highmem .answer ≡ Loaded k → AllHold row × (k .«kernel_load» ≡ loadOf s offset)
+  unfolding Refused
   plan-loaded {k} =
-      behind-with refusedAs row kernel (λ p. p .answer .answer ≡ Loaded k → AllHold row × (k .«kernel_load» ≡ loadOf s offset))
+      behind-with Refused row kernel (λ p. p .answer ≡ Loaded k → AllHold row × (k .«kernel_load» ≡ loadOf s offset))
       (λ hold e. (hold, loaded-at e)) (λ r fails e. let z : _≡_ {A = ℕ} 0 1 = cc in absurd (omega arith))
 
-  pub plan-refused : {refusal : Refusal} → planOf s m offset highmem .answer .answer ≡ Refused refusal → FirstFails refusal row
-  unfolding loadedAt refusedAs
+  pub plan-refused : {refusal : Refusal} → planOf s m offset highmem .answer ≡ Refused refusal → FirstFails refusal row
+  unfolding loadedAt Refused
   plan-refused {refusal} =
-      behind-with refusedAs row kernel (λ p. p .answer .answer ≡ Refused refusal → FirstFails refusal row)
+      behind-with Refused row kernel (λ p. p .answer ≡ Refused refusal → FirstFails refusal row)
       (λ hold e. let z : _≡_ {A = ℕ} 0 1 = cc in absurd (omega arith))
       (λ r fails e. let same : _≡_ {A = Refusal} r refusal = cc in subst (λ x. FirstFails x row) same fails)
 
   -- the whole plan of one that loads
-  pub loaded-plan : {k : KernelLoaderResult} → planOf s m offset highmem .answer .answer ≡ Loaded k → planOf s m offset highmem ≡ kernelPlan s (k .«kernel_load»)
-  loaded-plan e = let loaded = plan-loaded e in all-planned refusedAs row kernel (loaded .0) ∙ ap (kernelPlan s) (sym (loaded .1))
+  pub loaded-plan : {k : KernelLoaderResult} → planOf s m offset highmem .answer ≡ Loaded k → planOf s m offset highmem ≡ kernelPlan s (k .«kernel_load»)
+  loaded-plan e = let loaded = plan-loaded e in all-planned Refused row kernel (loaded .0) ∙ ap (kernelPlan s) (sym (loaded .1))
 
   -- and of one that refuses
-  pub refused-plan : {refusal : Refusal} → planOf s m offset highmem .answer .answer ≡ Refused refusal
-      → planOf s m offset highmem ≡ refusedPlan refusedAs refusal
-  refused-plan e = first-planned refusedAs row kernel (plan-refused e)
+  pub refused-plan : {refusal : Refusal} → planOf s m offset highmem .answer ≡ Refused refusal
+      → planOf s m offset highmem ≡ refusedPlan Refused refusal
+  refused-plan e = first-planned Refused row kernel (plan-refused e)
 
 -- ---- the copy
 
 -- copying so many bytes from the setup size on is the load of a plan that loads
-pub copied-loads : (s : List ℕ) (offset highmem : Given) (map : Map) (guest : List ℕ) {r : Outcome} {k : KernelLoaderResult} {p n : ℕ} {after : List ℕ}
-    → r ≡ planOf s (memoryOf guest map) offset highmem .answer → r .answer ≡ Loaded k → p ≡ setupSize s → n ≡ kernelSize s
+pub copied-loads : (s : List ℕ) (offset highmem : Given) (map : Map) (guest : List ℕ) {r : Answer} {k : KernelLoaderResult} {p n : ℕ} {after : List ℕ}
+    → r ≡ planOf s (memoryOf guest map) offset highmem .answer → r ≡ Loaded k → p ≡ setupSize s → n ≡ kernelSize s
     → after ≡ pour (streamAt (k .«kernel_load» .0) (bytesAt s p n)) guest → KernelLoads s offset highmem map guest r after
 copied-loads s offset highmem map guest {k = k} er e ep en ea =
-    let planned = loaded-plan s (memoryOf guest map) offset highmem (sym (ap (λ (o : Outcome). o .answer) er) ∙ e) in
+    let planned = loaded-plan s (memoryOf guest map) offset highmem (sym er ∙ e) in
     record {
       answer = er;
       memory =
           ea
           ∙ ap (λ (vs : List ℕ). pour (streamAt (k .«kernel_load» .0) vs) guest) (kernel-bytes s ep en)
-          ∙ ap (λ (q : Plan Outcome). pour (q .stream) guest) (sym planned);
+          ∙ ap (λ (q : Plan Answer). pour (q .stream) guest) (sym planned);
     }
 
 -- and of one that refuses nothing is written
-pub refused-loads : (s : List ℕ) (offset highmem : Given) (map : Map) (guest : List ℕ) {r : Outcome} {refusal : Refusal}
-    → r ≡ planOf s (memoryOf guest map) offset highmem .answer → r .answer ≡ Refused refusal → KernelLoads s offset highmem map guest r guest
+pub refused-loads : (s : List ℕ) (offset highmem : Given) (map : Map) (guest : List ℕ) {r : Answer} {refusal : Refusal}
+    → r ≡ planOf s (memoryOf guest map) offset highmem .answer → r ≡ Refused refusal → KernelLoads s offset highmem map guest r guest
 unfolding pour
 refused-loads s offset highmem map guest er e =
-    let planned = refused-plan s (memoryOf guest map) offset highmem (sym (ap (λ (o : Outcome). o .answer) er) ∙ e) in
-    record { answer = er; memory = ap (λ (q : Plan Outcome). pour (q .stream) guest) (sym planned) }
+    let planned = refused-plan s (memoryOf guest map) offset highmem (sym er ∙ e) in
+    record { answer = er; memory = ap (λ (q : Plan Answer). pour (q .stream) guest) (sym planned) }

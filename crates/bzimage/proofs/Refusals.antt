@@ -14,52 +14,52 @@ use Rattle.guest.specs.declared.Memory.{Memory}
 use Rattle.guest.specs.Loading.{Plan}
 use Rattle.guest.specs.Room.{memoryOf}
 use Rattle.guest.proofs.LoadingLaws.{all-planned, first-planned}
-use Rattle.bzimage.specs.declared.Answer.the-variants.{Loaded, Refused}
-use Rattle.bzimage.specs.declared.KernelLoaderResult.{KernelLoaderResult}
-use Rattle.bzimage.specs.declared.Outcome.{Outcome}
-use Rattle.bzimage.specs.Answers.{bzImageNumber, bzImageValues, bzImageNumbers}
+use Rattle.guest.specs.declared.Answer.the-variants.{Loaded, Refused}
+use Rattle.guest.specs.declared.KernelLoaderResult.{KernelLoaderResult}
+use Rattle.guest.specs.declared.Answer.{Answer}
+use Rattle.bzimage.specs.Answers.{answerNumber, answerValues, bzImageNumbers}
 use Rattle.bzimage.specs.Kernel.{kernelSize, loadOf}
-use Rattle.bzimage.specs.Plan.{tests, loadedAt, refusedAs, kernelPlan, planOf, KernelLoads}
+use Rattle.bzimage.specs.Plan.{tests, loadedAt, Refused, kernelPlan, planOf, KernelLoads}
 use Rattle.bzimage.proofs.PlanLaws.{plan-loaded, plan-refused}
 
-module _ (image : List ℕ) (offset highmem : Given) (map : Map) (guest : List ℕ) {r : Outcome} {after : List ℕ} (loads : KernelLoads image offset highmem map guest r after) where
+module _ (image : List ℕ) (offset highmem : Given) (map : Map) (guest : List ℕ) {r : Answer} {after : List ℕ} (loads : KernelLoads image offset highmem map guest r after) where
   abbrev row : List Test
   row = tests image (memoryOf guest map) offset highmem
 
-  planned : planOf image (memoryOf guest map) offset highmem .answer .answer ≡ r .answer
-  planned = sym (ap (λ (o : Outcome). o .answer) (loads .answer))
+  planned : planOf image (memoryOf guest map) offset highmem .answer ≡ r
+  planned = sym (loads .answer)
 
   -- ---- accepted exactly where every test holds
 
   pub accepted-where : AllHold row → r ≡ loadedAt image (loadOf image offset)
-  accepted-where h = loads .answer ∙ ap (λ (p : Plan Outcome). p .answer) (all-planned refusedAs row (kernelPlan image (loadOf image offset)) h)
+  accepted-where h = loads .answer ∙ ap (λ (p : Plan Answer). p .answer) (all-planned Refused row (kernelPlan image (loadOf image offset)) h)
 
-  pub where-accepted : {k : KernelLoaderResult} → r .answer ≡ Loaded k → AllHold row
+  pub where-accepted : {k : KernelLoaderResult} → r ≡ Loaded k → AllHold row
   where-accepted e = plan-loaded image (memoryOf guest map) offset highmem (planned ∙ e) .0
 
   -- ---- refused exactly by the first test that fails
 
-  pub refused-where : {refusal : Refusal} → FirstFails refusal row → r ≡ refusedAs refusal
-  refused-where f = loads .answer ∙ ap (λ (p : Plan Outcome). p .answer) (first-planned refusedAs row (kernelPlan image (loadOf image offset)) f)
+  pub refused-where : {refusal : Refusal} → FirstFails refusal row → r ≡ Refused refusal
+  refused-where f = loads .answer ∙ ap (λ (p : Plan Answer). p .answer) (first-planned Refused row (kernelPlan image (loadOf image offset)) f)
 
-  pub where-refused : {refusal : Refusal} → r .answer ≡ Refused refusal → FirstFails refusal row
+  pub where-refused : {refusal : Refusal} → r ≡ Refused refusal → FirstFails refusal row
   where-refused e = plan-refused image (memoryOf guest map) offset highmem (planned ∙ e)
 
   -- ---- the same by the catalogue: no number with the load address and the kernel's end, or the refusal's number alone
 
   pub accepted-values : AllHold row
-      → (bzImageNumber (r .answer) ≡ 0) × (bzImageValues (r .answer) ≡ loadOf image offset .0 ∷ (loadOf image offset .0 + kernelSize image) ∷ [])
-  unfolding bzImageNumber bzImageValues loadedAt
+      → (answerNumber r ≡ 0) × (answerValues r ≡ loadOf image offset .0 ∷ (loadOf image offset .0 + kernelSize image) ∷ [])
+  unfolding answerNumber answerValues loadedAt
   accepted-values h =
-      (ap (λ (o : Outcome). bzImageNumber (o .answer)) (accepted-where h), ap (λ (o : Outcome). bzImageValues (o .answer)) (accepted-where h))
+      (ap (λ (o : Answer). answerNumber o) (accepted-where h), ap (λ (o : Answer). answerValues o) (accepted-where h))
 
-  pub refused-values : {refusal : Refusal} → FirstFails refusal row → (bzImageNumber (r .answer) ≡ numberOf refusal) × (bzImageValues (r .answer) ≡ [])
-  unfolding bzImageNumber bzImageValues refusedAs
+  pub refused-values : {refusal : Refusal} → FirstFails refusal row → (answerNumber r ≡ numberOf refusal) × (answerValues r ≡ [])
+  unfolding answerNumber answerValues Refused
   refused-values f =
-      (ap (λ (o : Outcome). bzImageNumber (o .answer)) (refused-where f), ap (λ (o : Outcome). bzImageValues (o .answer)) (refused-where f))
+      (ap (λ (o : Answer). answerNumber o) (refused-where f), ap (λ (o : Answer). answerValues o) (refused-where f))
 
 -- "Bad input gets its listed number": a refusal has one of these numbers and no other
-pub bzimage-listed : (image : List ℕ) (m : Memory) (offset highmem : Given) {refusal : Refusal} → planOf image m offset highmem .answer .answer ≡ Refused refusal
+pub bzimage-listed : (image : List ℕ) (m : Memory) (offset highmem : Given) {refusal : Refusal} → planOf image m offset highmem .answer ≡ Refused refusal
     → Listed bzImageNumbers refusal
 unfolding rowListed contains
 bzimage-listed image m offset highmem e = first-listed bzImageNumbers (tests image m offset highmem) refl (plan-refused image m offset highmem e)

@@ -15,12 +15,12 @@ use Rattle.guest.specs.declared.Given.{Given}
 use Rattle.guest.specs.declared.Map.{Map}
 use Rattle.guest.specs.Loading.{Plan}
 use Rattle.guest.specs.Room.{memoryOf}
-use Rattle.bzimage.specs.declared.Answer.the-variants.{Loaded, Refused}
-use Rattle.bzimage.specs.declared.KernelLoaderResult.{KernelLoaderResult}
-use Rattle.bzimage.specs.declared.Outcome.{Outcome}
+use Rattle.guest.specs.declared.Answer.the-variants.{Loaded, Refused}
+use Rattle.guest.specs.declared.KernelLoaderResult.{KernelLoaderResult}
+use Rattle.guest.specs.declared.Answer.{Answer}
 use Rattle.bzimage.specs.SetupHeader.{headerSize, headerStart}
 use Rattle.bzimage.specs.Header.{bytesFrom, headerRead, headerOf}
-use Rattle.bzimage.specs.Plan.{loadedAt, refusedAs, planOf, KernelLoads}
+use Rattle.bzimage.specs.Plan.{loadedAt, Refused, planOf, KernelLoads}
 use Rattle.bzimage.specs.Returned.{startAt, Returned}
 use Rattle.bzimage.proofs.PlanLaws.{loaded-plan, refused-plan}
 
@@ -53,19 +53,19 @@ header-returned image load =
 
 -- ---- of the load's contract
 
-module _ (image : List ℕ) (offset highmem : Given) (map : Map) (guest : List ℕ) {r : Outcome} {after : List ℕ} (loads : KernelLoads image offset highmem map guest r after) where
-  planned : planOf image (memoryOf guest map) offset highmem .answer .answer ≡ r .answer
-  planned = sym (ap (λ (o : Outcome). o .answer) (loads .answer))
+module _ (image : List ℕ) (offset highmem : Given) (map : Map) (guest : List ℕ) {r : Answer} {after : List ℕ} (loads : KernelLoads image offset highmem map guest r after) where
+  planned : planOf image (memoryOf guest map) offset highmem .answer ≡ r
+  planned = sym (loads .answer)
 
-  pub accepted-header : {k : KernelLoaderResult} → r .answer ≡ Loaded k → Returned image (k .«kernel_load» .0) (r .«setup_header»)
+  pub accepted-header : {k : KernelLoaderResult} → r ≡ Loaded k → Returned image (k .«kernel_load» .0) (r .«setup_header»)
   unfolding loadedAt
   accepted-header {k} e =
-      let loaded = ap (λ (p : Plan Outcome). p .answer) (loaded-plan image (memoryOf guest map) offset highmem (planned ∙ e)) in
-      subst⁻¹ (Returned image (k .«kernel_load» .0)) (ap (λ (o : Outcome). o .«setup_header») (loads .answer ∙ loaded))
+      let loaded = ap (λ (p : Plan Answer). p .answer) (loaded-plan image (memoryOf guest map) offset highmem (planned ∙ e)) in
+      subst⁻¹ (Returned image (k .«kernel_load» .0)) (ap (λ (o : Answer). o .«setup_header») (loads .answer ∙ loaded))
       (header-returned image (k .«kernel_load» .0))
 
-  pub refused-header : {refusal : Refusal} → r .answer ≡ Refused refusal → r .«setup_header» ≡ replicate headerSize 0
-  unfolding refusedAs
+  pub refused-header : {refusal : Refusal} → r ≡ Refused refusal → r .«setup_header» ≡ replicate headerSize 0
+  unfolding Refused
   refused-header e =
-      let refused = ap (λ (p : Plan Outcome). p .answer) (refused-plan image (memoryOf guest map) offset highmem (planned ∙ e)) in
-      ap (λ (o : Outcome). o .«setup_header») (loads .answer ∙ refused)
+      let refused = ap (λ (p : Plan Answer). p .answer) (refused-plan image (memoryOf guest map) offset highmem (planned ∙ e)) in
+      ap (λ (o : Answer). o .«setup_header») (loads .answer ∙ refused)

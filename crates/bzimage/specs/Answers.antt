@@ -2,18 +2,18 @@
 use Prim.Native.Nat.{ℕ}
 use mathlib.Core.List.{List, [], _∷_}
 use Rattle.answers.specs.Catalogue.{numberOf}
-use Rattle.bzimage.specs.declared.Answer.{Answer}
-use Rattle.bzimage.specs.declared.Answer.the-variants.{Loaded, Refused}
+use Rattle.guest.specs.declared.Answer.{Answer}
+use Rattle.guest.specs.declared.Answer.the-variants.{Loaded, Refused}
 
 -- the number of an answer: the refusal's, and 0 where the kernel is loaded
-unfoldable pub bzImageNumber : Answer → ℕ
-bzImageNumber (Loaded k) = 0
-bzImageNumber (Refused refusal) = numberOf refusal
+unfoldable pub answerNumber : Answer → ℕ
+answerNumber (Loaded k) = 0
+answerNumber (Refused refusal) = numberOf refusal
 
 -- the values beside it: the load address and the kernel's end; a refusal has none
-unfoldable pub bzImageValues : Answer → List ℕ
-bzImageValues (Loaded k) = k .«kernel_load» .0 ∷ k .«kernel_end» .0 ∷ []
-bzImageValues (Refused refusal) = []
+unfoldable pub answerValues : Answer → List ℕ
+answerValues (Loaded k) = k .«kernel_load» .0 ∷ k .«kernel_end» .0 ∷ []
+answerValues (Refused refusal) = []
 
 -- the numbers that a load may answer beside 0, in the order in which they are asked
 abbrev pub bzImageNumbers : List ℕ

@@ -19,9 +19,9 @@ use Rattle.guest.specs.Lent.{lentTests}
 use Rattle.guest.specs.Loading.{Plan, Loads, behindTests}
 use Rattle.guest.specs.Room.{room, memoryOf}
 use Rattle.guest.specs.Stream.{streamAt}
-use Rattle.bzimage.specs.declared.Answer.the-variants.{Loaded, Refused}
-use Rattle.bzimage.specs.declared.KernelLoaderResult.{KernelLoaderResult}
-use Rattle.bzimage.specs.declared.Outcome.{Outcome}
+use Rattle.guest.specs.declared.Answer.the-variants.{Loaded, Refused}
+use Rattle.guest.specs.declared.KernelLoaderResult.{KernelLoaderResult}
+use Rattle.guest.specs.declared.Answer.{Answer}
 use Rattle.bzimage.specs.SetupHeader.{headerSize, headerMagic, version, loadflags}
 use Rattle.bzimage.specs.Header.{headerOf}
 use Rattle.bzimage.specs.Kernel.{setupSize, kernelSize, kernelOf, startOf, loadOf}
@@ -55,24 +55,24 @@ abbrev pub loadedAs : List ℕ → GuestAddress → KernelLoaderResult
 loadedAs image load = record { «kernel_load» = load; «kernel_end» = record { 0 = load .0 + kernelSize image } }
 
 -- what is answered where all tests hold: the kernel, and the header with its address
-unfoldable pub loadedAt : List ℕ → GuestAddress → Outcome
+unfoldable pub loadedAt : List ℕ → GuestAddress → Answer
 loadedAt image load = record { answer = Loaded (loadedAs image load); «setup_header» = headerOf image (load .0) }
 
 -- what is answered by a refusal: beside it the header is all zero
-unfoldable pub refusedAs : Refusal → Outcome
-refusedAs refusal = record { answer = Refused refusal; «setup_header» = replicate headerSize 0 }
+unfoldable pub Refused : Refusal → Answer
+Refused refusal = record { answer = Refused refusal; «setup_header» = replicate headerSize 0 }
 
 -- a kernel loaded at an address is written from there on
-abbrev pub kernelPlan : List ℕ → GuestAddress → Plan Outcome
+abbrev pub kernelPlan : List ℕ → GuestAddress → Plan Answer
 kernelPlan image load = record { answer = loadedAt image load; stream = streamAt (load .0) (kernelOf image) }
 
-abbrev pub planOf : List ℕ → Memory → Given → Given → Plan Outcome
-planOf image m offset highmem = behindTests refusedAs (tests image m offset highmem) (kernelPlan image (loadOf image offset))
+abbrev pub planOf : List ℕ → Memory → Given → Given → Plan Answer
+planOf image m offset highmem = behindTests Refused (tests image m offset highmem) (kernelPlan image (loadOf image offset))
 
 -- the one refusal that more guest memory may lift
 abbrev pub ForRoom : Refusal → Type 0
 ForRoom refusal = refusal ≡ ReadBzImageCompressedKernel
 
 -- a load of an image into guest memory with a map that held `before`: it answers r and leaves `after`
-abbrev pub KernelLoads : List ℕ → Given → Given → Map → List ℕ → Outcome → List ℕ → Type 0
+abbrev pub KernelLoads : List ℕ → Given → Given → Map → List ℕ → Answer → List ℕ → Type 0
 KernelLoads image offset highmem map before r after = Loads (planOf image (memoryOf before map) offset highmem) before r after

@@ -12,9 +12,9 @@ use Rattle.fields.specs.Ranges.{liesWithin}
 use Rattle.guest.specs.Loading.{Plan, behindTests}
 use Rattle.guest.specs.Sizes.{allowed}
 use Rattle.guest.specs.declared.Given.{Given}
-use Rattle.bzimage.specs.declared.Outcome.{Outcome}
+use Rattle.guest.specs.declared.Answer.{Answer}
 use Rattle.bzimage.specs.Kernel.{kernelSize, loadOf}
-use Rattle.bzimage.specs.Plan.{imageTests, refusedAs, kernelPlan}
+use Rattle.bzimage.specs.Plan.{imageTests, Refused, kernelPlan}
 
 -- is there room for n bytes at an address? For none there always is
 unfoldable pub roomWithin : ℕ → ℕ → ℕ → Bool
@@ -27,5 +27,5 @@ testsWithin image size offset highmem =
     ∷ imageTests image highmem
     ++ ((roomWithin size (loadOf image offset .0) (kernelSize image), ReadBzImageCompressedKernel) ∷ [])
 
-abbrev pub planWithin : List ℕ → ℕ → Given → Given → Plan Outcome
-planWithin image size offset highmem = behindTests refusedAs (testsWithin image size offset highmem) (kernelPlan image (loadOf image offset))
+abbrev pub planWithin : List ℕ → ℕ → Given → Given → Plan Answer
+planWithin image size offset highmem = behindTests Refused (testsWithin image size offset highmem) (kernelPlan image (loadOf image offset))

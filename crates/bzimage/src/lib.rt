@@ -35,7 +35,7 @@ pub enum Answer {
 }
 
 // The answer, and the setup header for the boot page. Beside a refusal the header is all zero.
-pub struct Outcome {
+pub struct Answer {
     pub answer: Answer,
     pub setup_header: [u8; 123],
 }
@@ -47,7 +47,7 @@ pub fn load(
     image: &[u8],
     kernel_offset: Given,
     highmem_start: Given,
-) -> Outcome
+) -> Answer
     ensures { λ r. ⌜ KernelLoads (now (image .entry)) «kernel_offset» «highmem_start» map (now (guest .entry)) r (now (guest .exit)) ⌝ }
 {
     let memory = Memory {

@@ -2,7 +2,7 @@
 ghost use mathlib.Core.Path.{_≡_};
 ghost use Rattle.bzimage.specs.Plan.{planOf};
 ghost use Rattle.bzimage.specs.Steps.{partOf};
-use crate::Outcome;
+use crate::Answer;
 use crate::kernel;
 use crate::plan;
 use guest::Given;
@@ -11,7 +11,7 @@ use guest::Part;
 use guest::parts;
 
 // What a load into this memory answers.
-pub fn plan(memory: Memory, image: &[u8], kernel_offset: Given, highmem_start: Given) -> Outcome
+pub fn plan(memory: Memory, image: &[u8], kernel_offset: Given, highmem_start: Given) -> Answer
     ensures { λ r. ⌜ r ≡ planOf (now (image .entry)) memory «kernel_offset» «highmem_start» .answer ⌝ }
 {
     plan::plan_load(image, memory, kernel_offset, highmem_start)

@@ -9,12 +9,12 @@
 
 // The plan of a load: the tests in their order, and the answer.
 ghost use mathlib.Core.Path.{_≡_};
-ghost use Rattle.bzimage.specs.Plan.{roomFor, tests, refusedAs, planOf};
+ghost use Rattle.bzimage.specs.Plan.{roomFor, tests, Refused, planOf};
 ghost use Rattle.answers.specs.Tests.{askedAll};
 ghost use Rattle.answers.specs.declared.Gate.the-variants.{Open};
+use guest::Answer;
+use guest::KernelLoaderResult;
 use crate::Answer;
-use crate::KernelLoaderResult;
-use crate::Outcome;
 use crate::header;
 use crate::kernel;
 use crate::setup_header;
@@ -63,17 +63,17 @@ fn validate(image: &[u8], memory: Memory, offset: Given, highmem: Given) -> Gate
     answers::require(gate, room, Refusal::ReadBzImageCompressedKernel)
 }
 
-pub(crate) fn refused(refusal: Refusal) -> Outcome
-    ensures { λ r. ⌜ r ≡ refusedAs refusal ⌝ }
+pub(crate) fn refused(refusal: Refusal) -> Answer
+    ensures { λ r. ⌜ r ≡ Refused refusal ⌝ }
 {
-    Outcome {
+    Answer {
         answer: Answer::Refused(refusal),
         setup_header: [0; 123],
     }
 }
 
 // What a load into a memory answers.
-pub(crate) fn plan_load(image: &[u8], memory: Memory, offset: Given, highmem: Given) -> Outcome
+pub(crate) fn plan_load(image: &[u8], memory: Memory, offset: Given, highmem: Given) -> Answer
     ensures { λ r. ⌜ r ≡ planOf (now (image .entry)) memory offset highmem .answer ⌝ }
 {
     let gate = validate(image, memory, offset, highmem);
@@ -88,7 +88,7 @@ pub(crate) fn plan_load(image: &[u8], memory: Memory, offset: Given, highmem: Gi
                 kernel_load: load,
                 kernel_end: GuestAddress(end),
             };
-            Outcome {
+            Answer {
                 answer: Answer::Loaded(loaded),
                 setup_header: header,
             }

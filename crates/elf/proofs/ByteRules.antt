@@ -22,9 +22,9 @@ use Rattle.elf.specs.Rules.{SegmentRules, SegmentFits}
 use Rattle.elf.specs.Load.{LoadSays}
 use Rattle.elf.specs.Verdict.{Accepted, is-accepted}
 use Rattle.elf.specs.ByteRule.{Covers, FileByte, Ruled, last-covers, untouched}
-use Rattle.elf.specs.declared.KernelLoaderResult.{KernelLoaderResult}
-use Rattle.elf.specs.declared.Answer.{Answer}
-use Rattle.elf.specs.declared.Answer.the-variants.{Loaded}
+use Rattle.guest.specs.declared.KernelLoaderResult.{KernelLoaderResult}
+use Rattle.guest.specs.declared.Answer.{Answer}
+use Rattle.guest.specs.declared.Answer.the-variants.{Loaded}
 use Rattle.elf.specs.declared.program_headers.ProgramHeader.{ProgramHeader}
 use Rattle.elf.proofs.PouringLaws.{segmentBytes, stream-none, stream-loads, plan-stream}
 use Rattle.elf.proofs.FitsLaws.{accepted-fit}

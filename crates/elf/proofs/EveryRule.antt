@@ -21,7 +21,7 @@ use Rattle.elf.specs.Survey.{endStep, segmentStep, memoryStep, kindStep,
 use Rattle.elf.specs.Pouring.{planOf}
 use Rattle.elf.specs.Verdict.{Passes, passes, Verdict, accepted, Accepted, is-accepted}
 use Rattle.elf.specs.Rules.{SegmentRules, SegmentFits, MemoryRules, NotesSay, notes-say, HeaderRules, Rules}
-use Rattle.elf.specs.declared.Answer.{Answer}
+use Rattle.guest.specs.declared.Answer.{Answer}
 use Rattle.elf.specs.declared.NoteAnswer.{NoteAnswer}
 use Rattle.elf.specs.declared.NoteAnswer.the-variants as answer
 use Rattle.elf.specs.declared.program_headers.ProgramHeader.{ProgramHeader}

@@ -16,8 +16,8 @@ use Rattle.guest.specs.declared.Given.{Given}
 use Rattle.guest.specs.declared.Map.{Map}
 use Rattle.elf.specs.Load.{LoadSays}
 use Rattle.elf.specs.Lengthening.{ForBytes, header, program-header, segment, note, ForRoom}
-use Rattle.elf.specs.declared.Answer.{Answer}
-use Rattle.elf.specs.declared.Answer.the-variants.{Refused}
+use Rattle.guest.specs.declared.Answer.{Answer}
+use Rattle.guest.specs.declared.Answer.the-variants.{Refused}
 use Rattle.elf.proofs.MoreRoom.{guest-grows, image-longer, both-grow}
 
 -- it is of no kind that may lift

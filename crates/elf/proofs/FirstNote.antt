@@ -24,12 +24,12 @@ use Rattle.elf.specs.Survey.{endStep, segmentStep, memoryStep, kindStep,
 use Rattle.elf.specs.Load.{LoadSays}
 use Rattle.elf.specs.Verdict.{stepAt, Accepted, is-accepted}
 use Rattle.elf.specs.FirstNote.{GivesNote, GivesNone, FirstGives, Absent, not-present, ignored}
-use Rattle.elf.specs.declared.PvhNote.{PvhNote}
-use Rattle.elf.specs.declared.PvhBootCapability.{PvhBootCapability}
-use Rattle.elf.specs.declared.PvhBootCapability.the-variants as pvh
-use Rattle.elf.specs.declared.KernelLoaderResult.{KernelLoaderResult}
-use Rattle.elf.specs.declared.Answer.{Answer}
-use Rattle.elf.specs.declared.Answer.the-variants.{Loaded, Refused}
+use Rattle.guest.specs.declared.PvhNote.{PvhNote}
+use Rattle.guest.specs.declared.PvhBootCapability.{PvhBootCapability}
+use Rattle.guest.specs.declared.PvhBootCapability.the-variants as pvh
+use Rattle.guest.specs.declared.KernelLoaderResult.{KernelLoaderResult}
+use Rattle.guest.specs.declared.Answer.{Answer}
+use Rattle.guest.specs.declared.Answer.the-variants.{Loaded, Refused}
 use Rattle.elf.specs.declared.NoteAnswer.{NoteAnswer}
 use Rattle.elf.specs.declared.NoteAnswer.the-variants as answer
 use Rattle.elf.specs.declared.program_headers.ProgramHeader.{ProgramHeader}

@@ -15,8 +15,8 @@ use Rattle.elf.specs.ProgramHeaders.{headerOf, HeadersStand}
 use Rattle.elf.specs.Pouring.{segmentStream, streamFrom, wholeStream, ifLoaded, planOf}
 use Rattle.elf.specs.Verdict.{Accepted, is-accepted}
 use Rattle.elf.specs.Rules.{SegmentFits}
-use Rattle.elf.specs.declared.Answer.{Answer}
-use Rattle.elf.specs.declared.Answer.the-variants.{Loaded, Refused}
+use Rattle.guest.specs.declared.Answer.{Answer}
+use Rattle.guest.specs.declared.Answer.the-variants.{Loaded, Refused}
 use Rattle.elf.specs.declared.program_headers.ProgramHeader.{ProgramHeader}
 use Rattle.elf.proofs.HeaderLaws.{headers-stand}
 use Rattle.elf.proofs.PouringLaws.{segmentBytes, stream-none, stream-empty, stream-loads, plan-stream}

@@ -1,6 +1,6 @@
 -- "Two images of one length that hold the same bytes in the header, the program headers and the notes have the same plan": the same answer, the same
--- number of parts and the same parts, whatever the rest of either image holds. So a caller may plan with those bytes alone, and copy the parts
--- from the whole image: guest memory is then as the load of the whole image leaves it.
+-- number of parts and the same parts, whatever the rest of either image holds. So a caller may plan with those bytes only, and copy the parts
+-- from the whole image (`loads`, Footprint).
 use Prim.Native.Nat.{ℕ, zero, suc, _+_, _*_, _≤_, _<_}
 use mathlib.Core.Path.{_≡_, sym, _∙_, refl, ap}
 use mathlib.Core.Bool.{false}
@@ -14,31 +14,24 @@ use Rattle.fields.specs.Agreement.{Agree}
 use Rattle.fields.specs.Numbers.{le}
 use Rattle.fields.proofs.AgreementLaws.{agree-within, agree-le, agree-tag}
 use Rattle.guest.specs.Addresses.{amountOf, isGiven}
-use Rattle.guest.specs.Parted.{copiedFrom, SamePlan}
 use Rattle.guest.specs.Parts.{noPart}
-use Rattle.guest.specs.Room.{memoryOf}
 use Rattle.guest.specs.declared.Given.{Given}
-use Rattle.guest.specs.declared.Map.{Map}
 use Rattle.guest.specs.declared.Memory.{Memory}
 use Rattle.guest.proofs.LoadingLaws.{answer-same}
-use Rattle.guest.proofs.PartedLaws.{same-leave}
 use Rattle.elf.specs.Footprint.{SameNotes, SameFootprint}
 use Rattle.elf.specs.Header.{magic, e-phoff, e-phnum, programHeaderSize, tests}
-use Rattle.elf.specs.Load.{LoadSays}
-use Rattle.elf.specs.Portions.{partAt, partOf, partBelow}
+use Rattle.elf.specs.Parts.{partAt, partOf}
 use Rattle.elf.specs.Pouring.{surveyPlan, planOf}
 use Rattle.elf.specs.ProgramHeaders.{headerPlace, headerAt, headerOf}
-use Rattle.elf.specs.Steps.{courseOf}
 use Rattle.elf.specs.Survey.{noteStep, saidStep, stepOf, afterStep, advanced, surveyFrom, surveyOf, blank, loadAddress}
-use Rattle.elf.specs.declared.Answer.{Answer}
-use Rattle.elf.specs.declared.Answer.the-variants.{Loaded, Refused}
-use Rattle.elf.specs.declared.KernelLoaderResult.{KernelLoaderResult}
+use Rattle.guest.specs.declared.Answer.{Answer}
+use Rattle.guest.specs.declared.Answer.the-variants.{Refused}
+use Rattle.guest.specs.declared.KernelLoaderResult.{KernelLoaderResult}
 use Rattle.elf.specs.declared.program_headers.ProgramHeader.{ProgramHeader}
 use Rattle.elf.specs.declared.survey.Effect.{Effect}
 use Rattle.elf.specs.declared.survey.Step.{Step}
 use Rattle.elf.specs.declared.survey.Step.the-variants.{Pass, Stop}
 use Rattle.elf.proofs.NotesFootprint.{entry-same}
-use Rattle.elf.proofs.Parted.{parts-are, loads-by}
 
 -- ---- what is read
 
@@ -117,29 +110,14 @@ module _ (s t : List ℕ) (offset : Given) (same : SameFootprint s t offset) whe
     pub plan-same : (highmem : Given) → planOf s m offset highmem .answer ≡ planOf t m offset highmem .answer
     plan-same highmem = answer-same Refused (surveyPlan s offset (surveyOf s m offset)) (surveyPlan t offset (surveyOf t m offset)) (tests-same highmem) all-same
 
-    -- ---- the parts
+  -- ---- the parts
 
-    part-same : (i : ℕ) → i < e-phnum s → partOf s m (amountOf offset) i ≡ partOf t m (amountOf offset) i
-    unfolding partAt
-    part-same i lt = rw (header-same i lt, same .lengths, field-same 8 32 (omega arith))
+  part-same : (i : ℕ) → i < e-phnum s → partAt s (amountOf offset) i ≡ partAt t (amountOf offset) i
+  unfolding partAt
+  part-same i lt = rw (header-same i lt, same .lengths, field-same 8 32 (omega arith))
 
-    -- as `parts::part` answers them
-    pub told-same : (i : ℕ) → partBelow s m offset i ≡ partBelow t m offset i
-    unfolding partBelow
-    told-same i =
-        pick-both _≡_ (ltb i (e-phnum s)) (λ below. part-same i (ltb-true i (e-phnum s) below)) (λ _. refl)
-        ∙ ap (λ n. pick (ltb i n) (partOf t m (amountOf offset) i) noPart) phnum-same
-
-    pub same-plan : (highmem : Given) → SamePlan (courseOf s m offset highmem) (courseOf t m offset highmem)
-    same-plan highmem = record { answer = plan-same highmem; count = phnum-same; parts = part-same }
-
--- ---- a load by the parts of another image that has the same footprint
-
-pub planned-elsewhere : (image sparse : List ℕ) (offset highmem : Given) → SameFootprint image sparse offset → (map : Map) (before after : List ℕ) {r : Answer}
-    {result : KernelLoaderResult} → LoadSays image offset highmem map before r after → r ≡ Loaded result
-    → (r ≡ planOf sparse (memoryOf before map) offset highmem .answer)
-    × (after ≡ copiedFrom (e-phnum sparse) image (partOf sparse (memoryOf before map) (amountOf offset)) 0 before)
-planned-elsewhere image sparse offset highmem same map before after loads is =
-    let m = memoryOf before map in
-    same-leave (courseOf image m offset highmem) image m (planOf image m offset highmem) (parts-are image m offset highmem) before loads
-    (loads-by image m offset highmem (sym (loads .answer) ∙ is)) (courseOf sparse m offset highmem) (same-plan image sparse offset same m highmem)
+  pub parts-same : (i : ℕ) → partOf s offset i ≡ partOf t offset i
+  unfolding partOf
+  parts-same i =
+      pick-both _≡_ (ltb i (e-phnum s)) (λ below. part-same i (ltb-true i (e-phnum s) below)) (λ _. refl)
+      ∙ ap (λ n. pick (ltb i n) (partAt t (amountOf offset) i) noPart) phnum-same

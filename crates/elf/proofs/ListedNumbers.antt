@@ -18,10 +18,10 @@ use Rattle.elf.specs.Notes.{skipOf, turnAt, afterTurn, walkFrom, twelves
 use Rattle.elf.specs.Pouring.{planOf}
 use Rattle.elf.specs.Survey.{endStep, segmentStep, memoryStep, kindStep, loadStep, saidStep, noteStep, stepOf}
 use Rattle.elf.specs.Verdict.{stops, Verdict, by-test, by-header, accepted}
-use Rattle.elf.specs.declared.Answer.{Answer}
-use Rattle.elf.specs.declared.Answer.the-variants.{Refused}
+use Rattle.guest.specs.declared.Answer.{Answer}
+use Rattle.guest.specs.declared.Answer.the-variants.{Refused}
 use Rattle.elf.specs.declared.ElfNote.{ElfNote}
-use Rattle.elf.specs.declared.PvhBootCapability.{PvhBootCapability}
+use Rattle.guest.specs.declared.PvhBootCapability.{PvhBootCapability}
 use Rattle.elf.specs.declared.NoteAnswer.{NoteAnswer}
 use Rattle.elf.specs.declared.NoteAnswer.the-variants as answer
 use Rattle.elf.specs.declared.notes.Turn.{Turn}

@@ -24,8 +24,8 @@ use Rattle.guest.proofs.LoadingLaws.{load-kept}
 use Rattle.elf.specs.Pouring.{planOf}
 use Rattle.elf.specs.Load.{LoadSays}
 use Rattle.elf.specs.Lengthening.{ForBytes, segment, ForRoom}
-use Rattle.elf.specs.declared.Answer.{Answer}
-use Rattle.elf.specs.declared.Answer.the-variants.{Refused}
+use Rattle.guest.specs.declared.Answer.{Answer}
+use Rattle.guest.specs.declared.Answer.the-variants.{Refused}
 use Rattle.elf.proofs.FitsLaws.{plan-inside}
 use Rattle.elf.proofs.Lengthened.{plan-longer}
 

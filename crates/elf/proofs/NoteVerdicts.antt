@@ -26,8 +26,8 @@ use Rattle.reading.specs.Notes.{noteHeaderOf}
 use Rattle.elf.specs.Notes.{noteHeaderSize, xen, topSize, noteLength, isWanted, skipOf, turnAt, afterTurn, walkFrom, twelves, walkOf, saidOf, entryOf, told, publicNote, noteAt}
 use Rattle.elf.specs.Load.{noteNumber}
 use Rattle.elf.specs.NoteVerdict.{isPvhNote, noteTests, PassedOver, no-note, one-more, refusedNote, entryAt, noEntry, NoteVerdict, too-long, refused, found, not-found}
-use Rattle.elf.specs.declared.PvhBootCapability.{PvhBootCapability}
-use Rattle.elf.specs.declared.PvhBootCapability.the-variants as pvh
+use Rattle.guest.specs.declared.PvhBootCapability.{PvhBootCapability}
+use Rattle.guest.specs.declared.PvhBootCapability.the-variants as pvh
 use Rattle.elf.specs.declared.NoteAnswer.the-variants as answer
 use Rattle.elf.specs.declared.ElfNote.{ElfNote}
 use Rattle.elf.specs.declared.notes.Turn.the-variants as turn

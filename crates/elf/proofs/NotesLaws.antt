@@ -20,7 +20,7 @@ use Rattle.guest.specs.declared.ImagePlace.{ImagePlace}
 use Rattle.reading.specs.Notes.{noteHeaderOf}
 use Rattle.reading.specs.declared.NoteHeader.{NoteHeader}
 use Rattle.elf.specs.Notes.{topSize, noteHeaderSize, skipOf, turnAt, afterTurn, walkFrom, walkOf, twelves, saidOf, entryOf}
-use Rattle.elf.specs.declared.PvhBootCapability.the-variants as pvh
+use Rattle.guest.specs.declared.PvhBootCapability.the-variants as pvh
 use Rattle.elf.specs.declared.NoteAnswer.{NoteAnswer}
 use Rattle.elf.specs.declared.NoteAnswer.the-variants as answer
 use Rattle.elf.specs.declared.ElfNote.{ElfNote}

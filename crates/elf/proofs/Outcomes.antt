@@ -1,9 +1,7 @@
 -- Each public function permits one outcome.
 use mathlib.Core.Path.{refl}
 use Rattle.answers.specs.Outcome.{OneOutcome}
-use Rattle.answers.proofs.Outcomes.{meet, first}
-use Rattle.elf.proofs.load.Kinds as load-kinds
-use Rattle.elf.proofs.load.Reads as load-reads
+use Rattle.answers.proofs.Outcomes.{meet}
 use Rattle.elf.proofs.parse_elf_note.Kinds as parse-elf-note-kinds
 use Rattle.elf.proofs.parse_elf_note.Reads as parse-elf-note-reads
 use Rattle.elf.proofs.parts.plan.Kinds as parts-plan-kinds
@@ -12,9 +10,6 @@ use Rattle.elf.proofs.parts.count.Kinds as parts-count-kinds
 use Rattle.elf.proofs.parts.count.Reads as parts-count-reads
 use Rattle.elf.proofs.parts.part.Kinds as parts-part-kinds
 use Rattle.elf.proofs.parts.part.Reads as parts-part-reads
-
-pub load-one : OneOutcome 2 load-kinds.ps load-kinds.r load-reads.Post
-load-one κs a z z' ws ws' p q = (meet (p .answer) (q .answer), first (meet (p .memory) (q .memory)))
 
 pub parse-elf-note-one : OneOutcome 1 parse-elf-note-kinds.ps parse-elf-note-kinds.r parse-elf-note-reads.Post
 parse-elf-note-one κs a z z' ws ws' p q = (meet p q, refl)

@@ -22,9 +22,9 @@ use Rattle.elf.specs.Header.{e-entry, e-phnum, tests}
 use Rattle.elf.specs.ProgramHeaders.{headerOf}
 use Rattle.elf.specs.Survey.{blank, surveyFrom, surveyOf}
 use Rattle.elf.specs.Pouring.{segmentStream, streamFrom, wholeStream, ifLoaded, surveyPlan, planOf}
-use Rattle.elf.specs.declared.KernelLoaderResult.{KernelLoaderResult}
-use Rattle.elf.specs.declared.Answer.{Answer}
-use Rattle.elf.specs.declared.Answer.the-variants.{Loaded, Refused}
+use Rattle.guest.specs.declared.KernelLoaderResult.{KernelLoaderResult}
+use Rattle.guest.specs.declared.Answer.{Answer}
+use Rattle.guest.specs.declared.Answer.the-variants.{Loaded, Refused}
 use Rattle.elf.specs.declared.program_headers.ProgramHeader.{ProgramHeader}
 
 -- ---- one program header
@@ -47,31 +47,7 @@ module _ (image : List ℕ) (shift : ℕ) (h : ProgramHeader) where
   unfolding segmentStream pick
   stream-loads loads = rw (eq-eqb (h .«p_type») 1 loads)
 
-  pub pour-none : (guest : List ℕ) → (h .«p_type» ≡ 1 → ⊥) → guest ≡ pour (segmentStream image shift h) guest
-  unfolding pour
-  pour-none guest other = rw (stream-none other)
-
-  pub pour-loads : (guest : List ℕ) → h .«p_type» ≡ 1
-      → pour (streamAt (shift + h .«p_paddr» .0) (segmentBytes image h)) guest ≡ pour (segmentStream image shift h) guest
-  pour-loads guest loads = ap (λ ps. pour ps guest) (sym (stream-loads loads))
-
-  -- one whose address passes the end of memory writes nothing
-  pub pour-beyond : (guest : List ℕ) → h .«p_type» ≡ 1 → length guest ≤ shift + h .«p_paddr» .0 → guest ≡ pour (segmentStream image shift h) guest
-  pour-beyond guest loads past = sym (pour-past (segmentBytes image h) guest (shift + h .«p_paddr» .0) past) ∙ pour-loads guest loads
-
--- ---- program header after program header
-
-module _ (image : List ℕ) (shift i : ℕ) (guest : List ℕ) where
-  pub stream-next : {m : ℕ} {h : ProgramHeader} (n next : ℕ) → m ≡ suc n → next ≡ suc i → h ≡ headerOf image i
-      → pour (streamFrom m image shift i) guest ≡ pour (streamFrom n image shift next) (pour (segmentStream image shift h) guest)
-  unfolding streamFrom
-  stream-next n next em en eh = rw (em, en, eh) (pour-append (segmentStream image shift (headerOf image i)) (streamFrom n image shift (suc i)) guest)
-
-  pub stream-end : {m : ℕ} → m ≡ 0 → pour (streamFrom m image shift i) guest ≡ guest
-  unfolding streamFrom pour
-  stream-end em = rw em
-
--- ---- what code does by the answer
+-- ---- the stream by the answer
 
 module _ (image : List ℕ) (m : Memory) (offset highmem : Given) where
   abbrev plan : Plan Answer
@@ -84,22 +60,6 @@ module _ (image : List ℕ) (m : Memory) (offset highmem : Given) where
   pub plan-stream : plan .stream ≡ ifLoaded (plan .answer) (wholeStream image offset)
   plan-stream =
       behind-with Refused (tests image m offset highmem) headers (λ (p : Plan Answer). p .stream ≡ ifLoaded (p .answer) (wholeStream image offset)) (λ _. refl) (λ _ _. refl)
-
-  poured-by : {r told : Answer} {before after : List ℕ} → r ≡ plan .answer → r ≡ told → after ≡ pour (ifLoaded told (wholeStream image offset)) before → Loads plan before told after
-  poured-by {before = before} er et ea =
-      record {
-        answer = sym et ∙ er;
-        memory = ea ∙ ap (λ (a : Answer). pour (ifLoaded a (wholeStream image offset)) before) (sym et ∙ er) ∙ ap (λ ps. pour ps before) (sym plan-stream);
-      }
-
-  pub load-refused : {answer : Answer} {r : Refusal} (before : List ℕ) → answer ≡ plan .answer → answer ≡ Refused r → Loads plan before (Refused r) before
-  unfolding pour
-  load-refused before er et = poured-by er et refl
-
-  pub load-accepted : {answer : Answer} {result : KernelLoaderResult} {n shift : ℕ} {before after : List ℕ} → answer ≡ plan .answer → answer ≡ Loaded result
-      → n ≡ e-phnum image → shift ≡ amountOf offset → after ≡ pour (streamFrom n image shift 0) before → Loads plan before (Loaded result) after
-  unfolding wholeStream
-  load-accepted er et en es ea = poured-by er et (ea ∙ rw (en, es))
 
 -- ---- the answer, as code works it out
 

@@ -15,11 +15,11 @@ use Rattle.guest.proofs.LoadingLaws.{all-planned, first-planned, behind-with}
 use Rattle.elf.specs.Header.{tests, e-phnum}
 use Rattle.elf.specs.Survey.{advanced, blank, afterStep, surveyFrom, loadAddress, surveyOf}
 use Rattle.elf.specs.Pouring.{surveyPlan, planOf}
-use Rattle.elf.specs.Load.{elfNumber}
+use Rattle.guest.specs.Answers.{answerNumber}
 use Rattle.elf.specs.Verdict.{Passes, passes, AllPass, FirstStops, stops, stepAt, Verdict, by-test, by-header, accepted, Accepted, is-accepted}
-use Rattle.elf.specs.declared.KernelLoaderResult.{KernelLoaderResult}
-use Rattle.elf.specs.declared.Answer.{Answer}
-use Rattle.elf.specs.declared.Answer.the-variants.{Loaded, Refused}
+use Rattle.guest.specs.declared.KernelLoaderResult.{KernelLoaderResult}
+use Rattle.guest.specs.declared.Answer.{Answer}
+use Rattle.guest.specs.declared.Answer.the-variants.{Loaded, Refused}
 use Rattle.elf.specs.declared.survey.Step.{Step}
 use Rattle.elf.specs.declared.survey.Step.the-variants.{Pass, Stop}
 use Rattle.elf.specs.declared.survey.Effect.{Effect}
@@ -139,15 +139,15 @@ module _ (image : List ℕ) (m : Memory) (offset highmem : Given) where
 
   -- in the catalogue's numbers
 
-  pub test-number : {r : Refusal} → FirstFails r row → elfNumber told ≡ numberOf r
-  unfolding elfNumber
-  test-number fails = ap elfNumber (test-decides fails)
+  pub test-number : {r : Refusal} → FirstFails r row → answerNumber told ≡ numberOf r
+  unfolding answerNumber
+  test-number fails = ap answerNumber (test-decides fails)
 
-  pub header-number : {r : Refusal} → AllHold row → FirstStops steps (e-phnum image) r → elfNumber told ≡ numberOf r
-  unfolding elfNumber
-  header-number hold by = ap elfNumber (header-decides hold by)
+  pub header-number : {r : Refusal} → AllHold row → FirstStops steps (e-phnum image) r → answerNumber told ≡ numberOf r
+  unfolding answerNumber
+  header-number hold by = ap answerNumber (header-decides hold by)
 
 -- an answer that is accepted has no number
-pub accepted-number : {a : Answer} → Accepted a → elfNumber a ≡ 0
-unfolding elfNumber
+pub accepted-number : {a : Answer} → Accepted a → answerNumber a ≡ 0
+unfolding answerNumber
 accepted-number is-accepted = refl

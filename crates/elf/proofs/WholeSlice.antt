@@ -23,8 +23,8 @@ use Rattle.elf.specs.ProgramHeaders.{headerOf}
 use Rattle.elf.specs.Pouring.{planOf}
 use Rattle.elf.specs.Survey.{segmentStep, kindStep, loadStep, memoryStep, noteStep, stepOf, surveyFrom, advanced, blank, afterStep, loadAddress}
 use Rattle.elf.specs.WholeSlice.{segmentWithin, loadWithin, stepWithin, surveyWithin, planWithin}
-use Rattle.elf.specs.declared.Answer.{Answer}
-use Rattle.elf.specs.declared.KernelLoaderResult.{KernelLoaderResult}
+use Rattle.guest.specs.declared.Answer.{Answer}
+use Rattle.guest.specs.declared.KernelLoaderResult.{KernelLoaderResult}
 use Rattle.elf.specs.declared.program_headers.ProgramHeader.{ProgramHeader}
 use Rattle.elf.specs.declared.survey.Effect.{Effect}
 use Rattle.elf.specs.declared.survey.Effect.the-variants as effect

@@ -7,9 +7,9 @@ use Rattle.guest.specs.Addresses.{isGiven}
 use Rattle.guest.specs.declared.Given.{Given}
 use Rattle.elf.specs.ProgramHeaders.{headerOf}
 use Rattle.elf.specs.Notes.{entryOf}
-use Rattle.elf.specs.declared.PvhNote.{PvhNote}
-use Rattle.elf.specs.declared.PvhBootCapability.{PvhBootCapability}
-use Rattle.elf.specs.declared.PvhBootCapability.the-variants.{PvhEntryPresent, PvhEntryNotPresent, PvhEntryIgnored}
+use Rattle.guest.specs.declared.PvhNote.{PvhNote}
+use Rattle.guest.specs.declared.PvhBootCapability.{PvhBootCapability}
+use Rattle.guest.specs.declared.PvhBootCapability.the-variants.{PvhEntryPresent, PvhEntryNotPresent, PvhEntryIgnored}
 use Rattle.elf.specs.declared.NoteAnswer.the-variants.{Says}
 use Rattle.elf.specs.declared.program_headers.ProgramHeader.{ProgramHeader}
 

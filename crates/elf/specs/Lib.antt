@@ -7,8 +7,7 @@ pub mod Notes
 pub mod Survey
 pub mod Pouring
 pub mod Load
-pub mod Portions
-pub mod Steps
+pub mod Parts
 -- what theorems are stated with beside it
 pub mod Listing
 pub mod Verdict

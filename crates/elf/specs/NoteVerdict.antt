@@ -15,7 +15,7 @@ use Rattle.guest.specs.Sizes.{allowed}
 use Rattle.reading.specs.Notes.{noteHeaderOf}
 use Rattle.reading.specs.declared.NoteHeader.{NoteHeader}
 use Rattle.elf.specs.Notes.{noteHeaderSize, xen, isWanted, topSize, noteLength, noteAt}
-use Rattle.elf.specs.declared.PvhBootCapability.the-variants as pvh
+use Rattle.guest.specs.declared.PvhBootCapability.the-variants as pvh
 use Rattle.elf.specs.declared.NoteAnswer.the-variants as answer
 use Rattle.elf.specs.declared.ElfNote.{ElfNote}
 

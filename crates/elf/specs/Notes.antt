@@ -14,8 +14,8 @@ use Rattle.guest.specs.Sizes.{allowed}
 use Rattle.guest.specs.declared.ImagePlace.{ImagePlace}
 use Rattle.reading.specs.Notes.{noteHeaderOf}
 use Rattle.reading.specs.declared.NoteHeader.{NoteHeader}
-use Rattle.elf.specs.declared.PvhNote.{PvhNote}
-use Rattle.elf.specs.declared.PvhBootCapability.the-variants as pvh
+use Rattle.guest.specs.declared.PvhNote.{PvhNote}
+use Rattle.guest.specs.declared.PvhBootCapability.the-variants as pvh
 use Rattle.elf.specs.declared.NoteAnswer.{NoteAnswer}
 use Rattle.elf.specs.declared.NoteAnswer.the-variants as answer
 use Rattle.elf.specs.declared.ElfNote.{ElfNote}

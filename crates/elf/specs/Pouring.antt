@@ -11,8 +11,8 @@ use Rattle.guest.specs.declared.Memory.{Memory}
 use Rattle.elf.specs.Header.{e-phnum, tests}
 use Rattle.elf.specs.ProgramHeaders.{headerOf}
 use Rattle.elf.specs.Survey.{surveyOf}
-use Rattle.elf.specs.declared.Answer.{Answer}
-use Rattle.elf.specs.declared.Answer.the-variants.{Loaded, Refused}
+use Rattle.guest.specs.declared.Answer.{Answer}
+use Rattle.guest.specs.declared.Answer.the-variants.{Loaded, Refused}
 use Rattle.elf.specs.declared.program_headers.ProgramHeader.{ProgramHeader}
 
 -- the file bytes of a loadable segment, at its address moved by shift

@@ -14,11 +14,11 @@ use Rattle.guest.specs.declared.Memory.{Memory}
 use Rattle.elf.specs.Header.{e-entry, e-phnum}
 use Rattle.elf.specs.ProgramHeaders.{headerOf}
 use Rattle.elf.specs.Notes.{entryOf}
-use Rattle.elf.specs.declared.PvhBootCapability.{PvhBootCapability}
-use Rattle.elf.specs.declared.PvhBootCapability.the-variants as pvh
-use Rattle.elf.specs.declared.KernelLoaderResult.{KernelLoaderResult}
-use Rattle.elf.specs.declared.Answer.{Answer}
-use Rattle.elf.specs.declared.Answer.the-variants.{Loaded, Refused}
+use Rattle.guest.specs.declared.PvhBootCapability.{PvhBootCapability}
+use Rattle.guest.specs.declared.PvhBootCapability.the-variants as pvh
+use Rattle.guest.specs.declared.KernelLoaderResult.{KernelLoaderResult}
+use Rattle.guest.specs.declared.Answer.{Answer}
+use Rattle.guest.specs.declared.Answer.the-variants.{Loaded, Refused}
 use Rattle.elf.specs.declared.NoteAnswer.{NoteAnswer}
 use Rattle.elf.specs.declared.NoteAnswer.the-variants as answer
 use Rattle.elf.specs.declared.program_headers.ProgramHeader.{ProgramHeader}

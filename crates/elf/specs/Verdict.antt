@@ -9,9 +9,9 @@ use Rattle.guest.specs.declared.Memory.{Memory}
 use Rattle.elf.specs.Header.{tests, e-phnum}
 use Rattle.elf.specs.ProgramHeaders.{headerOf}
 use Rattle.elf.specs.Survey.{stepOf}
-use Rattle.elf.specs.declared.KernelLoaderResult.{KernelLoaderResult}
-use Rattle.elf.specs.declared.Answer.{Answer}
-use Rattle.elf.specs.declared.Answer.the-variants.{Loaded, Refused}
+use Rattle.guest.specs.declared.KernelLoaderResult.{KernelLoaderResult}
+use Rattle.guest.specs.declared.Answer.{Answer}
+use Rattle.guest.specs.declared.Answer.the-variants.{Loaded, Refused}
 use Rattle.elf.specs.declared.survey.Effect.{Effect}
 use Rattle.elf.specs.declared.survey.Step.{Step}
 use Rattle.elf.specs.declared.survey.Step.the-variants.{Pass, Stop}

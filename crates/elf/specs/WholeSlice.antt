@@ -16,9 +16,9 @@ use Rattle.elf.specs.Header.{headerTests, e-phnum}
 use Rattle.elf.specs.ProgramHeaders.{headerOf}
 use Rattle.elf.specs.Pouring.{surveyPlan}
 use Rattle.elf.specs.Survey.{endStep, memoryStep, noteStep, advanced, blank, afterStep, loadAddress}
-use Rattle.elf.specs.declared.Answer.{Answer}
-use Rattle.elf.specs.declared.Answer.the-variants.{Loaded, Refused}
-use Rattle.elf.specs.declared.KernelLoaderResult.{KernelLoaderResult}
+use Rattle.guest.specs.declared.Answer.{Answer}
+use Rattle.guest.specs.declared.Answer.the-variants.{Loaded, Refused}
+use Rattle.guest.specs.declared.KernelLoaderResult.{KernelLoaderResult}
 use Rattle.elf.specs.declared.program_headers.ProgramHeader.{ProgramHeader}
 use Rattle.elf.specs.declared.survey.Effect.the-variants as effect
 use Rattle.elf.specs.declared.survey.Step.{Step}

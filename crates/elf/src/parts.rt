@@ -1,14 +1,18 @@
-// The plan of a load and its parts, with no guest memory lent: what the load answers, and which image bytes go where. There is one part for
-// each program header, in file order. A part of no bytes is not written.
+// The plan of a load and its parts: what the load answers, and which image bytes go where. There is one part for each program header, in
+// file order.
 ghost use mathlib.Core.Path.{_≡_};
-ghost use Rattle.elf.specs.Header.{e-phnum};
-ghost use Rattle.elf.specs.Portions.{partBelow};
+ghost use Prim.Native.Nat.{_<_};
+ghost use Rattle.elf.specs.Header.{e-phoff, e-phnum};
+ghost use Rattle.elf.specs.Parts.{headerPart, partAt, partOf};
 ghost use Rattle.elf.specs.Pouring.{planOf};
-use crate::Answer;
-use crate::portions;
+use crate::program_headers;
+use crate::program_headers::ProgramHeader;
 use crate::survey;
 use fields::numbers;
+use fields::ranges;
+use guest::Answer;
 use guest::Given;
+use guest::GuestAddress;
 use guest::Memory;
 use guest::Part;
 use guest::addresses;
@@ -28,15 +32,44 @@ pub fn count(image: &[u8]) -> u64
     numbers::read_u16(image, 56)
 }
 
-// Part i of a load into this memory; from the count on there is none.
-pub fn part(memory: Memory, image: &[u8], kernel_offset: Given, i: u64) -> Part
-    ensures { λ r. ⌜ r ≡ partBelow (now (image .entry)) memory «kernel_offset» i ⌝ }
+// The part of a program header: its file bytes, if it is loadable.
+fn part_of(shift: u64, h: ProgramHeader) -> Part
+    ensures { λ r. ⌜ r ≡ headerPart shift h ⌝ }
+{
+    if h.p_type != 1 {
+        return parts::nothing();
+    }
+    let p_paddr = h.p_paddr.0;
+    if !ranges::sum_fits(shift, p_paddr) {
+        return parts::nothing();
+    }
+    let p_offset = h.p_offset;
+    Part {
+        address: GuestAddress(shift + p_paddr),
+        place: p_offset,
+        size: h.p_filesz,
+    }
+}
+
+// The part of program header i of those from e_phoff on, if the header lies in the image.
+fn part_at(image: &[u8], shift: u64, e_phoff: u64, i: u64) -> Part
+    requires { ⌜ («e_phoff» ≡ e-phoff (now image)) × (i < 65536) ⌝ }
+    ensures { λ r. ⌜ r ≡ partAt (now (image .entry)) shift i ⌝ }
+{
+    if !ranges::within(image.len() as u64, e_phoff, 56 * i + 56) {
+        return parts::nothing();
+    }
+    part_of(shift, program_headers::read_header(image, e_phoff, i))
+}
+
+// Part i of a load; from the count on there is none. Whether it has room is the plan's to say.
+pub fn part(image: &[u8], kernel_offset: Given, i: u64) -> Part
+    ensures { λ r. ⌜ r ≡ partOf (now (image .entry)) «kernel_offset» i ⌝ }
 {
     if numbers::read_u16(image, 56) <= i {
         return parts::nothing();
     }
     let shift = addresses::amount(kernel_offset);
     let e_phoff = numbers::read_u64(image, 32);
-    let part = portions::part_at(image, shift, e_phoff, i);
-    parts::kept(image.len() as u64, memory, part)
+    part_at(image, shift, e_phoff, i)
 }

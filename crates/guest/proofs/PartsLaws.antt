@@ -17,7 +17,7 @@ use Rattle.fields.proofs.RangesLaws.{within-sum}
 use Rattle.guest.specs.Room.{room}
 use Rattle.guest.specs.Stream.{Poke, pour, streamAt, bytesAt, Inside, none}
 use Rattle.guest.specs.Loading.{Plan, Loads}
-use Rattle.guest.specs.Parts.{partStream, noPart, keptPart, Stands, PartCopied, partsFrom, leftOf, Place, placeAfter, portionOf}
+use Rattle.guest.specs.Parts.{partStream, noPart, keptPart, Stands, Fits, PartCopied, partsFrom, leftOf, Place, placeAfter, portionOf}
 use Rattle.guest.specs.declared.Memory.{Memory}
 use Rattle.guest.specs.declared.Part.{Part}
 use Rattle.guest.specs.declared.Portion.{Portion}
@@ -129,6 +129,35 @@ pub kept-fits : (imageLength : ℕ) (m : Memory) (p : Part) → liesWithin image
     → keptPart imageLength m p ≡ p
 unfolding keptPart pick
 kept-fits imageLength m p in-image in-guest = rw (in-image, in-guest)
+
+-- ---- parts that fit
+
+pub none-fits : (imageLength : ℕ) (m : Memory) → Fits imageLength m noPart
+none-fits imageLength m = record { in-image = λ some. absurd (omega arith); in-guest = λ some. absurd (omega arith) }
+
+pub empty-stream : (image : List ℕ) (p : Part) → p .size ≡ 0 → partStream image p ≡ []
+unfolding partStream streamAt
+empty-stream image p e = rw e
+
+-- testing such a part again changes nothing of what it writes
+pub fits-kept : (image : List ℕ) (m : Memory) (p : Part) → Fits (length image) m p → partStream image (keptPart (length image) m p) ≡ partStream image p
+fits-kept image m p fits = split (decLe 1 (p .size))
+  where
+    split : Dec (1 ≤ p .size) → partStream image (keptPart (length image) m p) ≡ partStream image p
+    split (yes some) = ap (partStream image) (kept-fits (length image) m p (fits .in-image some) (fits .in-guest some))
+    split (no empty) =
+        let e : p .size ≡ 0 = omega arith in
+        empty-stream image (keptPart (length image) m p) (kept-none (length image) m p e) ∙ sym (empty-stream image p e)
+
+pub parts-kept : (k : ℕ) (image : List ℕ) (m : Memory) (part : ℕ → Part) (i : ℕ) → ((j : ℕ) → i ≤ j → j < i + k → Fits (length image) m (part j))
+    → partsFrom k image (λ j. keptPart (length image) m (part j)) i ≡ partsFrom k image part i
+unfolding partsFrom
+parts-kept zero image m part i fits = refl
+parts-kept (suc k) image m part i fits =
+    rw (
+      fits-kept image m (part i) (fits i (omega arith) (omega arith)),
+      parts-kept k image m part (suc i) (λ j le lt. fits j (omega arith) (omega arith)),
+    )
 
 -- what a copy of a part that was tested says
 pub copied-is : (image : List ℕ) (m : Memory) (p : Part) (skip budget : ℕ) (guest : List ℕ) {safe : Part} {passed n : ℕ} {after : List ℕ}

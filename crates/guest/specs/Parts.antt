@@ -32,6 +32,11 @@ pub record Stands (imageLength : ℕ) (m : Memory) (p : Part) : Type 0 where
   pub in-slice : p .address .0 + p .size ≤ m .size
   pub has-room : 0 < p .size → room m (p .address .0) (p .size) ≡ true
 
+-- a part that fits: its bytes, if it has any, stand in an image of this length and have room in memory
+pub record Fits (imageLength : ℕ) (m : Memory) (p : Part) : Type 0 where
+  pub in-image : 0 < p .size → liesWithin imageLength (p .place .0) (p .size) ≡ true
+  pub in-guest : 0 < p .size → room m (p .address .0) (p .size) ≡ true
+
 -- what a copy of a part after its first `skip` bytes says and leaves, at most a budget of bytes: the part's size, how many were copied, memory
 pub record PartCopied (image : List ℕ) (p : Part) (skip budget : ℕ) (before : List ℕ) (size count : ℕ) (after : List ℕ) : Type 0 where
   pub all : size ≡ p .size

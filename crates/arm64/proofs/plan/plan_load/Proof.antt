@@ -3,7 +3,7 @@ use borrow.Author.Needs.{needs}
 use mathlib.Core.Path.{sym, ap}
 use native.Mathlib.Omega.{arith}
 use Rattle.guest.specs.Loading.{Plan}
-use Rattle.arm64.specs.declared.Answer.{Answer}
+use Rattle.guest.specs.declared.Answer.{Answer}
 use Rattle.arm64.proofs.PlanLaws.{open-end, plan-shut, plan-open}
 use Rattle.arm64.proofs.plan.plan_load.Statement.{statement}
 use Rattle.arm64.proofs.plan.plan_load.Tie as tie

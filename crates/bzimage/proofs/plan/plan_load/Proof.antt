@@ -3,7 +3,7 @@ use borrow.Author.Needs.{needs}
 use mathlib.Core.Path.{sym, _∙_, ap}
 use native.Mathlib.Omega.{arith}
 use Rattle.guest.specs.Loading.{Plan}
-use Rattle.bzimage.specs.declared.Outcome.{Outcome}
+use Rattle.guest.specs.declared.Answer.{Answer}
 use Rattle.bzimage.specs.Plan.{loadedAt}
 use Rattle.bzimage.proofs.PlanLaws.{open-end, plan-shut, plan-open}
 use Rattle.bzimage.proofs.plan.plan_load.Statement.{statement}
@@ -24,7 +24,7 @@ returns : tie.Need-returns
 returns c =
     let args = c .before .before .before .before .before .before .args in
     let asked = c .before .before .before .before .validate .ensures in
-    c .refused .ensures ∙ sym (ap (λ (p : Plan Outcome). p .answer) (plan-shut (args .image .now) (args .memory) (args .offset) (args .highmem) asked (c .before .before .gate .given .1)))
+    c .refused .ensures ∙ sym (ap (λ (p : Plan Answer). p .answer) (plan-shut (args .image .now) (args .memory) (args .offset) (args .highmem) asked (c .before .before .gate .given .1)))
 
 returns-2 : tie.Need-returns-2
 unfolding loadedAt
@@ -32,7 +32,7 @@ returns-2 c =
     let args = c .before .before .before .before .before .before .before .before .before .args in
     let asked = c .before .before .before .before .before .before .before .validate .ensures in
     rw (c .header-with .ensures, c .before .before .kernel-size .ensures, c .before .before .before .given-or .ensures, c .before .before .before .before .code32-start .ensures)
-    (sym (ap (λ (p : Plan Outcome). p .answer) (plan-open (args .image .now) (args .memory) (args .offset) (args .highmem) asked (c .before .before .before .before .before .enum-told .given .1))))
+    (sym (ap (λ (p : Plan Answer). p .answer) (plan-open (args .image .now) (args .memory) (args .offset) (args .highmem) asked (c .before .before .before .before .before .enum-told .given .1))))
 
 pub plan-load-spec : {M : Type 1} → statement M
 plan-load-spec =

@@ -1,19 +1,19 @@
--- `parts::part`: the count is asked first; then the part of the program header is kept.
+-- `parts::part`: the count is checked first.
 use borrow.Author.Needs.{needs}
-use Rattle.elf.proofs.PortionsLaws.{part-past, part-below}
+use Rattle.elf.proofs.PartsLaws.{part-past, part-below}
 use Rattle.elf.proofs.parts.part.Statement.{statement}
 use Rattle.elf.proofs.parts.part.Tie as tie
 
 returns : tie.Need-returns
 returns c =
     let args = c .before .before .before .before .args in
-    part-past (args .image .now) (args .memory) (args .kernel-offset) (args .i) (c .before .before .read-u16 .ensures .value) (c .before .if1 .taken) (c .nothing .ensures)
+    part-past (args .image .now) (args .kernel-offset) (args .i) (c .before .before .read-u16 .ensures .value) (c .before .if1 .taken) (c .nothing .ensures)
 
 returns-2 : tie.Need-returns-2
 returns-2 c =
-    let args = c .before .before .before .before .before .before .before .args in
-    part-below (args .image .now) (args .memory) (args .kernel-offset) (args .i) (c .before .before .before .before .before .read-u16 .ensures .value) (c .before .before .before .before .if1 .left) (c .before .before .before .amount .ensures)
-    (c .before .part-at .ensures) (c .kept .ensures)
+    let args = c .before .before .before .before .before .before .args in
+    part-below (args .image .now) (args .kernel-offset) (args .i) (c .before .before .before .before .read-u16 .ensures .value) (c .before .before .before .if1 .left) (c .before .before .amount .ensures)
+    (c .part-at .ensures)
 
 pub part-spec : {M : Type 1} → statement M
 part-spec =
@@ -22,7 +22,6 @@ part-spec =
     (λ c κs. search needs)
     (λ c κs. search needs)
     returns
-    (λ c κs. search needs)
     (λ c κs. search needs)
     (λ c κs. search needs)
     (λ c κs. search needs)

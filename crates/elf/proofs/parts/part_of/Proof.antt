@@ -1,13 +1,13 @@
--- `portions::part_of`: by the tests, as the definition asks them.
+-- `parts::part_of`: by the tests, as the definition asks them.
 use borrow.Author.Needs.{needs}
 use borrow.Author.Tests.{eq-eqb, ne-eqb}
 use native.Mathlib.Omega.{arith}
 use Rattle.answers.specs.Pick.{pick}
 use Rattle.answers.proofs.PickLaws.{failed, held}
 use Rattle.fields.proofs.RangesLaws.{within-sum}
-use Rattle.elf.specs.Portions.{headerPart}
-use Rattle.elf.proofs.portions.part_of.Statement.{statement}
-use Rattle.elf.proofs.portions.part_of.Tie as tie
+use Rattle.elf.specs.Parts.{headerPart}
+use Rattle.elf.proofs.parts.part_of.Statement.{statement}
+use Rattle.elf.proofs.parts.part_of.Tie as tie
 
 returns : tie.Need-returns
 unfolding headerPart pick

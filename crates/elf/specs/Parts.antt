@@ -1,4 +1,4 @@
--- The parts of a load, one for each program header. They are told of any image: a later step may meet another one than the first.
+-- The parts of a load, one for each program header; of any image, since a later step may meet another one than the first.
 use Prim.Native.Nat.{ℕ, _+_, _*_}
 use mathlib.Core.List.{List}
 use lib.Dec.{ltb, eqb}
@@ -6,17 +6,14 @@ use lib.ListN.{length}
 use Rattle.answers.specs.Pick.{pick}
 use Rattle.fields.specs.Ranges.{liesWithin, fits64}
 use Rattle.guest.specs.Addresses.{amountOf}
-use Rattle.guest.specs.Parts.{noPart, keptPart, portionOf}
-use Rattle.guest.specs.Loading.{Plan}
+use Rattle.guest.specs.Parts.{noPart}
 use Rattle.guest.specs.declared.Given.{Given}
-use Rattle.guest.specs.declared.Memory.{Memory}
 use Rattle.guest.specs.declared.Part.{Part}
-use Rattle.guest.specs.declared.Portion.{Portion}
 use Rattle.elf.specs.Header.{e-phoff, e-phnum, programHeaderSize}
 use Rattle.elf.specs.ProgramHeaders.{headerOf}
 use Rattle.elf.specs.declared.program_headers.ProgramHeader.{ProgramHeader}
 
--- of a program header: its file bytes, where it is loadable, at its address moved by shift
+-- of a program header: its file bytes, if it is loadable, at its address moved by shift
 unfoldable pub headerPart : ℕ → ProgramHeader → Part
 headerPart shift h =
     pick (eqb (h .«p_type») 1)
@@ -25,15 +22,11 @@ headerPart shift h =
     noPart)
     noPart
 
--- of program header i, where it stands in the image
+-- of program header i, if the header lies in the image
 unfoldable pub partAt : List ℕ → ℕ → ℕ → Part
 partAt image shift i =
     pick (liesWithin (length image) (e-phoff image) (programHeaderSize * i + programHeaderSize)) (headerPart shift (headerOf image i)) noPart
 
--- where its bytes stand in the image and have room
-abbrev pub partOf : List ℕ → Memory → ℕ → ℕ → Part
-partOf image m shift i = keptPart (length image) m (partAt image shift i)
-
--- the same of any number: from the count of program headers on there is no part
-unfoldable pub partBelow : List ℕ → Memory → Given → ℕ → Part
-partBelow image m offset i = pick (ltb i (e-phnum image)) (partOf image m (amountOf offset) i) noPart
+-- part i of a load: from the count of program headers on there is none
+unfoldable pub partOf : List ℕ → Given → ℕ → Part
+partOf image offset i = pick (ltb i (e-phnum image)) (partAt image (amountOf offset) i) noPart

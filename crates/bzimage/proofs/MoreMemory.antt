@@ -20,9 +20,9 @@ use Rattle.guest.proofs.MapsLaws.{good-longer}
 use Rattle.guest.proofs.RoomLaws.{longer-grows, larger-grows, allowed-longer, lent-stays}
 use Rattle.guest.proofs.StreamLaws.{inside-at}
 use Rattle.guest.proofs.LoadingLaws.{load-kept, behind-inside, behind-keeps}
-use Rattle.bzimage.specs.declared.Outcome.{Outcome}
+use Rattle.guest.specs.declared.Answer.{Answer}
 use Rattle.bzimage.specs.Kernel.{kernelSize, kernelOf, loadOf}
-use Rattle.bzimage.specs.Plan.{imageTests, tests, refusedAs, kernelPlan, planOf, ForRoom, KernelLoads}
+use Rattle.bzimage.specs.Plan.{imageTests, tests, Refused, kernelPlan, planOf, ForRoom, KernelLoads}
 use Rattle.bzimage.proofs.KernelLaws.{length-kernel}
 use Rattle.bzimage.proofs.PlanLaws.{room-for-grows, hold-room}
 
@@ -36,7 +36,7 @@ module _ (s : List ℕ) (m : Memory) (offset highmem : Given) where
   pub plan-inside : Inside m (planOf s m offset highmem .stream)
   plan-inside =
       let len = length-kernel s in
-      behind-inside refusedAs (tests s m offset highmem) (kernelPlan s (loadOf s offset)) m
+      behind-inside Refused (tests s m offset highmem) (kernelPlan s (loadOf s offset)) m
       (λ hold. kernel-inside (kernelOf s) (λ some. rw len (hold-room s m offset highmem hold (omega arith))))
 
   rows-widen : (m' : Memory) → Grows m m' → allowed (m' .size) ≡ allowed (m .size) → goodMap (m' .size) (m' .map) ≡ goodMap (m .size) (m .map)
@@ -48,15 +48,15 @@ module _ (s : List ℕ) (m : Memory) (offset highmem : Given) where
 
 -- ---- of the load's contract
 
-module _ (image : List ℕ) (map : Map) (guest more : List ℕ) (offset highmem : Given) {r r' : Outcome} {after after' : List ℕ}
+module _ (image : List ℕ) (map : Map) (guest more : List ℕ) (offset highmem : Given) {r r' : Answer} {after after' : List ℕ}
     (before : KernelLoads image offset highmem map guest r after) (short : length (guest ++ more) ≤ longest) (good : goodMap (length guest) map ≡ true)
-    (stays : RefusedFor refusedAs ForRoom r → ⊥) where
+    (stays : RefusedFor Refused ForRoom r → ⊥) where
   pub guest-grows : (map' : Map) → goodMap (length (guest ++ more)) map' ≡ true → Grows (memoryOf guest map) (memoryOf (guest ++ more) map')
       → KernelLoads image offset highmem map' (guest ++ more) r' after' → (r' ≡ r) × (after' ≡ after ++ more)
   guest-grows map' good' more-room longer =
-      load-kept (planOf image (memoryOf guest map) offset highmem) guest after before (RefusedFor refusedAs ForRoom) (memoryOf guest map)
+      load-kept (planOf image (memoryOf guest map) offset highmem) guest after before (RefusedFor Refused ForRoom) (memoryOf guest map)
       (plan-inside image (memoryOf guest map) offset highmem) (omega arith)
-      (behind-keeps refusedAs ForRoom
+      (behind-keeps Refused ForRoom
       (rows-widen image (memoryOf guest map) offset highmem (memoryOf (guest ++ more) map') more-room (allowed-longer guest more short) (good' ∙ sym good))
       (λ _. same))
       more longer stays

@@ -10,11 +10,11 @@ use Rattle.guest.specs.Steps as steps
 use Rattle.guest.specs.declared.Given.{Given}
 use Rattle.guest.specs.declared.Memory.{Memory}
 use Rattle.guest.specs.declared.Part.{Part}
-use Rattle.bzimage.specs.declared.Answer.{Answer}
-use Rattle.bzimage.specs.declared.Answer.the-variants.{Loaded, Refused}
-use Rattle.bzimage.specs.declared.Outcome.{Outcome}
+use Rattle.guest.specs.declared.Answer.{Answer}
+use Rattle.guest.specs.declared.Answer.the-variants.{Loaded, Refused}
+use Rattle.guest.specs.declared.Answer.{Answer}
 use Rattle.bzimage.specs.Kernel.{setupSize, kernelSize, loadOf}
-use Rattle.bzimage.specs.Plan.{refusedAs, planOf}
+use Rattle.bzimage.specs.Plan.{Refused, planOf}
 
 -- the kernel: the image from the setup size on, at the load address
 abbrev pub kernelPart : List ℕ → Given → Part
@@ -28,11 +28,11 @@ isLoaded (Loaded result) = true
 isLoaded (Refused r) = false
 
 -- the course of a load: the outcome of the whole load, and its one part
-abbrev pub courseOf : List ℕ → Memory → Given → Given → steps.Course Outcome
+abbrev pub courseOf : List ℕ → Memory → Given → Given → steps.Course Answer
 courseOf image m offset highmem =
     record {
       answer = planOf image m offset highmem .answer;
-      loads = isLoaded (planOf image m offset highmem .answer .answer);
+      loads = isLoaded (planOf image m offset highmem .answer);
       count = 1;
       part = λ _. partOf image m offset;
     }

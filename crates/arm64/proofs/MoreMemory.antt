@@ -19,8 +19,8 @@ use Rattle.guest.proofs.MapsLaws.{good-longer}
 use Rattle.guest.proofs.RoomLaws.{longer-grows, larger-grows, allowed-longer, lent-stays}
 use Rattle.guest.proofs.StreamLaws.{inside-at}
 use Rattle.guest.proofs.LoadingLaws.{load-kept, behind-inside, behind-keeps}
-use Rattle.arm64.specs.declared.Answer.{Answer}
-use Rattle.arm64.specs.declared.Answer.the-variants.{Refused}
+use Rattle.guest.specs.declared.Answer.{Answer}
+use Rattle.guest.specs.declared.Answer.the-variants.{Refused}
 use Rattle.arm64.specs.Image.{startOf}
 use Rattle.arm64.specs.Plan.{imageTests, tests, imagePlan, planOf, ForRoom, ImageLoads}
 use Rattle.arm64.proofs.PlanLaws.{hold-room}

@@ -11,8 +11,8 @@ use Rattle.guest.specs.Steps as steps
 use Rattle.guest.specs.declared.GuestAddress.{GuestAddress}
 use Rattle.guest.specs.declared.Memory.{Memory}
 use Rattle.guest.specs.declared.Part.{Part}
-use Rattle.arm64.specs.declared.Answer.{Answer}
-use Rattle.arm64.specs.declared.Answer.the-variants.{Loaded, Refused}
+use Rattle.guest.specs.declared.Answer.{Answer}
+use Rattle.guest.specs.declared.Answer.the-variants.{Loaded, Refused}
 use Rattle.arm64.specs.Image.{textOffset, startOf}
 use Rattle.arm64.specs.Plan.{planOf}
 

@@ -1,4 +1,4 @@
--- `portions::part_at`: a header that does not stand in the image has no part.
+-- `parts::part_at`: a header that does not stand in the image has no part.
 use borrow.Author.Needs.{needs}
 use Prim.Native.Nat.{_+_, _*_}
 use mathlib.Core.Path.{_≡_, _∙_, ap}
@@ -10,9 +10,9 @@ use Rattle.answers.proofs.PickLaws.{failed, held}
 use Rattle.fields.specs.Ranges.{liesWithin}
 use Rattle.fields.proofs.RangesLaws.{within-sum}
 use Rattle.elf.specs.Header.{e-phoff}
-use Rattle.elf.specs.Portions.{partAt}
-use Rattle.elf.proofs.portions.part_at.Statement.{statement}
-use Rattle.elf.proofs.portions.part_at.Tie as tie
+use Rattle.elf.specs.Parts.{partAt}
+use Rattle.elf.proofs.parts.part_at.Statement.{statement}
+use Rattle.elf.proofs.parts.part_at.Tie as tie
 
 returns : tie.Need-returns
 unfolding partAt pick
