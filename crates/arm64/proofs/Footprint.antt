@@ -1,25 +1,18 @@
 -- "Two images of one length that hold the same bytes in the header have the same plan": the same answer and the same part, whatever the rest of either
--- image holds. So a caller may plan with those bytes alone, and copy the part from the whole image.
+-- image holds. So a caller may plan with those bytes only, and copy the part from the whole image (`loads`, Footprint).
 use Prim.Native.Nat.{ℕ, _+_, _≤_}
 use mathlib.Core.Path.{_≡_, sym, _∙_, refl}
 use mathlib.Core.List.{List}
 use native.Mathlib.Omega.{arith}
 use Rattle.fields.specs.Numbers.{le}
 use Rattle.fields.proofs.AgreementLaws.{agree-within, agree-le}
-use Rattle.guest.specs.Parted.{copied, copiedFrom, SamePlan}
-use Rattle.guest.specs.Room.{memoryOf}
-use Rattle.guest.specs.declared.Map.{Map}
 use Rattle.guest.specs.declared.Memory.{Memory}
 use Rattle.guest.proofs.LoadingLaws.{answer-same}
-use Rattle.guest.proofs.PartedLaws.{same-leave}
 use Rattle.arm64.specs.Footprint.{lookedAt, SameFootprint}
 use Rattle.arm64.specs.Image.{textOffset, imageSize}
-use Rattle.arm64.specs.Plan.{tests, imagePlan, planOf, ImageLoads}
-use Rattle.arm64.specs.Steps.{filePart, partOf, courseOf}
-use Rattle.guest.specs.declared.Answer.{Answer}
-use Rattle.guest.specs.declared.Answer.the-variants.{Loaded, Refused}
-use Rattle.guest.specs.declared.KernelLoaderResult.{KernelLoaderResult}
-use Rattle.arm64.proofs.Parted.{parts-are, loads-by}
+use Rattle.arm64.specs.Plan.{tests, imagePlan, planOf}
+use Rattle.arm64.specs.Parts.{partOf}
+use Rattle.guest.specs.declared.Answer.the-variants.{Refused}
 
 module _ (s t : List ℕ) (same : SameFootprint s t) where
   -- a field of the header
@@ -42,20 +35,6 @@ module _ (s t : List ℕ) (same : SameFootprint s t) where
     pub plan-same : planOf s m base .answer ≡ planOf t m base .answer
     plan-same = answer-same Refused (imagePlan s base) (imagePlan t base) tests-same loaded-same
 
-    pub part-same : partOf s m base ≡ partOf t m base
-    unfolding filePart
+    pub part-same : partOf s base ≡ partOf t base
+    unfolding partOf
     part-same = rw (same .lengths, offset-same)
-
-    pub same-plan : SamePlan (courseOf s m base) (courseOf t m base)
-    same-plan = record { answer = plan-same; count = refl; parts = λ i lt. part-same }
-
--- ---- a load by the part of another image that has the same footprint
-
-pub planned-elsewhere : (image sparse : List ℕ) (base : ℕ) → SameFootprint image sparse → (map : Map) (before after : List ℕ) {r : Answer} {k : KernelLoaderResult}
-    → ImageLoads image base map before r after → r ≡ Loaded k
-    → (r ≡ planOf sparse (memoryOf before map) base .answer) × (after ≡ copied image (partOf sparse (memoryOf before map) base) before)
-unfolding copiedFrom
-planned-elsewhere image sparse base same map before after loads is =
-    let m = memoryOf before map in
-    same-leave (courseOf image m base) image m (planOf image m base) (parts-are image m base) before loads (loads-by image m base (sym (loads .answer) ∙ is))
-    (courseOf sparse m base) (same-plan image sparse same m base)

@@ -1,10 +1,7 @@
 pub mod PlanLaws
 pub mod FileWritten
 pub mod Refusals
-pub mod MoreRoom
-pub mod HolesUntouched
+pub mod MoreMemory
 pub mod WholeSlice
-pub mod InSteps
-pub mod Parted
 pub mod Footprint
 pub mod Outcomes

@@ -1,16 +1,11 @@
 -- Each public function permits one outcome.
 use mathlib.Core.Path.{refl}
 use Rattle.answers.specs.Outcome.{OneOutcome}
-use Rattle.answers.proofs.Outcomes.{meet, first}
-use Rattle.arm64.proofs.load.Kinds as load-kinds
-use Rattle.arm64.proofs.load.Reads as load-reads
+use Rattle.answers.proofs.Outcomes.{meet}
 use Rattle.arm64.proofs.parts.plan.Kinds as parts-plan-kinds
 use Rattle.arm64.proofs.parts.plan.Reads as parts-plan-reads
 use Rattle.arm64.proofs.parts.part.Kinds as parts-part-kinds
 use Rattle.arm64.proofs.parts.part.Reads as parts-part-reads
-
-pub load-one : OneOutcome 2 load-kinds.ps load-kinds.r load-reads.Post
-load-one κs a z z' ws ws' p q = (meet (p .answer) (q .answer), first (meet (p .memory) (q .memory)))
 
 pub parts-plan-one : OneOutcome 1 parts-plan-kinds.ps parts-plan-kinds.r parts-plan-reads.Post
 parts-plan-one κs a z z' ws ws' p q = (meet p q, refl)

@@ -1,8 +1,8 @@
 -- Laws of the plan, which the functions' proofs and the theorems cite.
 use Prim.Native.Nat.{ℕ, _+_, _<_, _^_}
-use mathlib.Core.Path.{_≡_, sym, _∙_, ap, subst}
+use mathlib.Core.Path.{_≡_, refl, sym, _∙_, ap, subst, subst⁻¹}
 use mathlib.Core.Bool.{true, false}
-use mathlib.Core.List.{List, _++_}
+use mathlib.Core.List.{List, _++_, append-nil}
 use native.Mathlib.Omega.{arith}
 use lib.ListN.{length}
 use lib.Seq.{take-all}
@@ -13,23 +13,22 @@ use Rattle.answers.specs.declared.Gate.{Gate}
 use Rattle.answers.specs.declared.Gate.the-variants.{Open, Shut}
 use Rattle.answers.proofs.TestsLaws.{open-all, hold-left, hold-right}
 use Rattle.fields.specs.Ranges.{fits64, top64}
-use Rattle.fields.proofs.RangesLaws.{within-sum, sum-beyond, beyond-sum}
-use Rattle.guest.specs.declared.Map.{Map}
+use Rattle.fields.proofs.RangesLaws.{within-sum, sum-within, sum-beyond, beyond-sum}
 use Rattle.guest.specs.declared.Memory.{Memory}
 use Rattle.guest.specs.declared.Part.{Part}
 use Rattle.guest.specs.Lent.{lentTests}
 use Rattle.guest.specs.Loading.{Plan, refusedPlan}
-use Rattle.guest.specs.Parts.{noPart}
-use Rattle.guest.specs.Room.{room, memoryOf}
-use Rattle.guest.specs.Stream.{bytesAt, pour, streamAt}
+use Rattle.guest.specs.Parts.{noPart, Fits, partStream, partsFrom}
+use Rattle.guest.specs.Room.{room}
+use Rattle.guest.specs.Stream.{bytesAt, streamAt}
 use Rattle.guest.proofs.RoomLaws.{room-beyond}
 use Rattle.guest.proofs.LoadingLaws.{tests-open, tests-shut, all-planned, first-planned, behind-with}
 use Rattle.guest.specs.declared.Answer.{Answer}
 use Rattle.guest.specs.declared.Answer.the-variants.{Loaded, Refused}
 use Rattle.guest.specs.declared.KernelLoaderResult.{KernelLoaderResult}
 use Rattle.arm64.specs.Image.{textOffset, imageSize, startOf, endOf}
-use Rattle.arm64.specs.Plan.{imageTests, placeTests, tests, loadedAs, imagePlan, planOf, ImageLoads}
-use Rattle.arm64.specs.Steps.{filePart}
+use Rattle.arm64.specs.Plan.{imageTests, placeTests, tests, loadedAs, imagePlan, planOf}
+use Rattle.arm64.specs.Parts.{wholeFile, partOf}
 
 -- ---- sums that wrap: they have no room, and no further sum fits
 
@@ -89,40 +88,38 @@ module _ (s : List ℕ) (m : Memory) (base : ℕ) where
   pub refused-plan : {refusal : Refusal} → planOf s m base .answer ≡ Refused refusal → planOf s m base ≡ refusedPlan Refused refusal
   refused-plan e = first-planned Refused row (imagePlan s base) (plan-refused e)
 
--- ---- the copy
+-- ---- the file's bytes
 
 -- all bytes from the first on are the file
 pub all-bytes : (s : List ℕ) → bytesAt s 0 (length s) ≡ s
 all-bytes s = take-all (length s) s (omega arith)
 
--- copying them is the load of a plan that loads
-pub copied-loads : (s : List ℕ) (base : ℕ) (map : Map) (guest : List ℕ) {r : Answer} {k : KernelLoaderResult} {after : List ℕ}
-    → r ≡ planOf s (memoryOf guest map) base .answer → r ≡ Loaded k → after ≡ pour (streamAt (k .«kernel_load» .0) (bytesAt s 0 (length s))) guest
-    → ImageLoads s base map guest (Loaded k) after
-copied-loads s base map guest {k = k} er e ea =
-    let loads = sym er ∙ e in
-    let start : k .«kernel_load» .0 ≡ startOf s base = ap (λ (q : KernelLoaderResult). q .«kernel_load» .0) (plan-loaded s (memoryOf guest map) base loads .1) in
-    record {
-      answer = sym loads;
-      memory =
-          ea
-          ∙ rw (all-bytes s, start) (ap (λ (q : Plan Answer). pour (q .stream) guest) (sym (loaded-plan s (memoryOf guest map) base loads)));
-    }
-
--- and of one that refuses nothing is written
-pub refused-loads : (s : List ℕ) (base : ℕ) (map : Map) (guest : List ℕ) {r : Answer} {refusal : Refusal} → r ≡ planOf s (memoryOf guest map) base .answer
-    → r ≡ Refused refusal → ImageLoads s base map guest r guest
-unfolding pour
-refused-loads s base map guest er e =
-    record { answer = er; memory = ap (λ (q : Plan Answer). pour (q .stream) guest) (sym (refused-plan s (memoryOf guest map) base (sym er ∙ e))) }
-
 -- ---- the file as a part, by an offset that was read
 
-pub part-none : (s : List ℕ) (base : ℕ) {offset : ℕ} {r : Part} → offset ≡ textOffset s → fits64 base offset ≡ false → r ≡ noPart → r ≡ filePart s base
-unfolding filePart pick
+pub part-none : (s : List ℕ) (base : ℕ) {offset : ℕ} {r : Part} → offset ≡ textOffset s → fits64 base offset ≡ false → r ≡ noPart → r ≡ partOf s base
+unfolding partOf pick
 part-none s base eo e er = er ∙ rw (sym (ap (fits64 base) eo) ∙ e)
 
 pub part-whole : (s : List ℕ) (base : ℕ) {offset : ℕ} → offset ≡ textOffset s → fits64 base offset ≡ true
-    → record { address = record { 0 = base + offset }; place = record { 0 = 0 }; size = length s } ≡ filePart s base
-unfolding filePart pick
+    → record { address = record { 0 = base + offset }; place = record { 0 = 0 }; size = length s } ≡ partOf s base
+unfolding partOf pick
 part-whole s base eo e = rw (sym (ap (fits64 base) eo) ∙ e, eo)
+
+-- ---- of an accepted load the file fits, and is what is written
+
+module _ (s : List ℕ) (m : Memory) (base : ℕ) {k : KernelLoaderResult} (is : planOf s m base .answer ≡ Loaded k) where
+  part-is : partOf s base ≡ wholeFile s base
+  part-is = sym (part-whole s base refl (hold-start s m base (plan-loaded s m base is .0)))
+
+  pub part-fits : Fits (length s) m (partOf s base)
+  part-fits =
+      subst⁻¹ (Fits (length s) m) part-is
+      (record { in-image = λ _. sum-within (length s) 0 (length s) (omega arith); in-guest = λ _. hold-room s m base (plan-loaded s m base is .0) })
+
+  pub parts-written : partsFrom 1 s (λ _. partOf s base) 0 ≡ planOf s m base .stream
+  unfolding partsFrom partStream
+  parts-written =
+      append-nil (partStream s (partOf s base))
+      ∙ ap (partStream s) part-is
+      ∙ ap (streamAt (startOf s base)) (all-bytes s)
+      ∙ sym (ap (λ (p : Plan Answer). p .stream) (loaded-plan s m base is))

@@ -16,7 +16,8 @@ use Rattle.guest.proofs.LoadingLaws.{all-planned, first-planned}
 use Rattle.guest.specs.declared.Answer.{Answer}
 use Rattle.guest.specs.declared.Answer.the-variants.{Loaded, Refused}
 use Rattle.guest.specs.declared.KernelLoaderResult.{KernelLoaderResult}
-use Rattle.arm64.specs.Answers.{answerNumber, answerValues, imageNumbers}
+use Rattle.guest.specs.Answers.{answerNumber, answerValues, pvhCode, pvhAddress, pvhPlace, pvhSize}
+use Rattle.arm64.specs.Answers.{imageNumbers}
 use Rattle.arm64.specs.Image.{startOf, endOf}
 use Rattle.arm64.specs.Plan.{tests, loadedAs, imagePlan, planOf, ImageLoads}
 use Rattle.arm64.proofs.PlanLaws.{plan-loaded, plan-refused}
@@ -41,14 +42,14 @@ module _ (image : List ℕ) (base : ℕ) (map : Map) (guest : List ℕ) {r : Ans
   pub where-refused : {refusal : Refusal} → r ≡ Refused refusal → FirstFails refusal row
   where-refused e = plan-refused image (memoryOf guest map) base (sym (loads .answer) ∙ e)
 
-  -- ---- the same by the catalogue: no number with the address and the end, or the refusal's number alone
+  -- ---- the same by the catalogue: no number with the address, the end and no PVH entry, or the refusal's number alone
 
-  pub accepted-values : AllHold row → (answerNumber r ≡ 0) × (answerValues r ≡ startOf image base ∷ endOf image base ∷ [])
-  unfolding answerNumber imageValues
+  pub accepted-values : AllHold row → (answerNumber r ≡ 0) × (answerValues r ≡ startOf image base ∷ endOf image base ∷ 0 ∷ 0 ∷ 0 ∷ 0 ∷ [])
+  unfolding answerNumber answerValues pvhCode pvhAddress pvhPlace pvhSize
   accepted-values h = (ap answerNumber (accepted-where h), ap answerValues (accepted-where h))
 
   pub refused-values : {refusal : Refusal} → FirstFails refusal row → (answerNumber r ≡ numberOf refusal) × (answerValues r ≡ [])
-  unfolding answerNumber imageValues
+  unfolding answerNumber answerValues
   refused-values f = (ap answerNumber (refused-where f), ap answerValues (refused-where f))
 
 -- "Bad input gets its listed number": a refusal has one of these numbers and no other

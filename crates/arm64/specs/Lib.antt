@@ -4,7 +4,7 @@
 pub mod Image
 pub mod Plan
 pub mod Answers
-pub mod Steps
+pub mod Parts
 -- what theorems are stated with beside it
 pub mod Footprint
 pub mod WholeSlice

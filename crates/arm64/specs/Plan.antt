@@ -17,6 +17,7 @@ use Rattle.guest.specs.Stream.{streamAt}
 use Rattle.guest.specs.declared.Answer.{Answer}
 use Rattle.guest.specs.declared.Answer.the-variants.{Loaded, Refused}
 use Rattle.guest.specs.declared.KernelLoaderResult.{KernelLoaderResult}
+use Rattle.guest.specs.declared.PvhBootCapability.the-variants.{PvhEntryIgnored}
 use Rattle.arm64.specs.Image.{headerSize, textOffset, imageSize, flags, magic, theMagic, alignment, startOf, endOf}
 
 -- the tests of the header's fields, and of the base
@@ -45,7 +46,12 @@ tests image m base = lentTests (length image) m ++ imageTests image base ++ plac
 
 -- what is answered where all tests hold
 abbrev pub loadedAs : List ℕ → ℕ → KernelLoaderResult
-loadedAs image base = record { «kernel_load» = record { 0 = startOf image base }; «kernel_end» = record { 0 = endOf image base } }
+loadedAs image base =
+    record {
+      «kernel_load» = record { 0 = startOf image base };
+      «kernel_end» = record { 0 = endOf image base };
+      «pvh_boot_cap» = PvhEntryIgnored;
+    }
 
 -- the whole file is written
 abbrev pub imagePlan : List ℕ → ℕ → Plan Answer

@@ -1,10 +1,13 @@
-// The plan of a load and its one part, with no guest memory lent: what the load answers, and which image bytes go where.
+// The plan of a load and its one part: what the load answers, and which image bytes go where.
 ghost use mathlib.Core.Path.{_≡_};
+ghost use Rattle.arm64.specs.Parts.{partOf};
 ghost use Rattle.arm64.specs.Plan.{planOf};
-ghost use Rattle.arm64.specs.Steps.{partOf};
-use guest::Answer;
 use crate::plan;
+use fields::numbers;
+use fields::ranges;
+use guest::Answer;
 use guest::GuestAddress;
+use guest::ImagePlace;
 use guest::Memory;
 use guest::Part;
 use guest::parts;
@@ -16,10 +19,17 @@ pub fn plan(memory: Memory, image: &[u8], base: GuestAddress) -> Answer
     plan::plan_load(image, memory, base)
 }
 
-// The part of a load into this memory: the whole file, where it has room.
-pub fn part(memory: Memory, image: &[u8], base: GuestAddress) -> Part
-    ensures { λ r. ⌜ r ≡ partOf (now (image .entry)) memory (base .0) ⌝ }
+// The part of a load: the whole file, and none if its address wraps. Whether it has room is the plan's to say.
+pub fn part(image: &[u8], base: GuestAddress) -> Part
+    ensures { λ r. ⌜ r ≡ partOf (now (image .entry)) (base .0) ⌝ }
 {
-    let part = plan::file_part(image, base);
-    parts::kept(image.len() as u64, memory, part)
+    let offset = numbers::read_u64(image, plan::TEXT_OFFSET);
+    if !ranges::sum_fits(base.0, offset) {
+        return parts::nothing();
+    }
+    Part {
+        address: GuestAddress(base.0 + offset),
+        place: ImagePlace(0),
+        size: image.len() as u64,
+    }
 }

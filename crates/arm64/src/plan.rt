@@ -2,27 +2,24 @@
 ghost use mathlib.Core.Path.{_≡_};
 ghost use Prim.Native.Nat.{_+_};
 ghost use Rattle.arm64.specs.Plan.{tests, planOf};
-ghost use Rattle.arm64.specs.Steps.{filePart};
 ghost use Rattle.answers.specs.Tests.{askedAll};
 ghost use Rattle.answers.specs.declared.Gate.the-variants.{Open};
 ghost use Rattle.fields.specs.Ranges.{fits64};
 ghost use Rattle.guest.specs.Room.{room};
-use guest::Answer;
-use guest::KernelLoaderResult;
 use answers::Gate;
 use answers::Refusal;
 use fields::numbers;
 use fields::ranges;
+use guest::Answer;
 use guest::GuestAddress;
-use guest::ImagePlace;
+use guest::KernelLoaderResult;
 use guest::Memory;
-use guest::Part;
+use guest::PvhBootCapability;
 use guest::lent;
-use guest::parts;
 use guest::room;
 
 // The places of the header's fields.
-const TEXT_OFFSET: u64 = 8;
+pub(crate) const TEXT_OFFSET: u64 = 8;
 
 const IMAGE_SIZE: u64 = 16;
 
@@ -86,22 +83,8 @@ pub(crate) fn plan_load(image: &[u8], memory: Memory, base: GuestAddress) -> Ans
             Answer::Loaded(KernelLoaderResult {
                 kernel_load: GuestAddress(load),
                 kernel_end: GuestAddress(end),
+                pvh_boot_cap: PvhBootCapability::PvhEntryIgnored,
             })
         }
-    }
-}
-
-// The whole file, as a part of the image; none where its address wraps.
-pub(crate) fn file_part(image: &[u8], base: GuestAddress) -> Part
-    ensures { λ r. ⌜ r ≡ filePart (now (image .entry)) (base .0) ⌝ }
-{
-    let offset = numbers::read_u64(image, TEXT_OFFSET);
-    if !ranges::sum_fits(base.0, offset) {
-        return parts::nothing();
-    }
-    Part {
-        address: GuestAddress(base.0 + offset),
-        place: ImagePlace(0),
-        size: image.len() as u64,
     }
 }

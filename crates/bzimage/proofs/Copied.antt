@@ -1,5 +1,5 @@
 -- The sentence "the image bytes from the setup size on are the kernel, copied to the load address, all else untouched": after an accepted
--- load each byte of guest memory is the kernel's byte that covers it, or as it was; after a refused one every byte is as it was.
+-- load each byte of guest memory is the kernel's byte that covers it, or as it was.
 use Prim.Native.Nat.{ℕ, _+_, _-_, _<_}
 use mathlib.Core.Path.{_≡_, sym, _∙_, ap}
 use mathlib.Core.Bool.{true}
@@ -7,22 +7,20 @@ use mathlib.Core.List.{List}
 use native.Mathlib.Omega.{arith}
 use lib.ListN.{length, getD}
 use lib.Seq.{getD-drop}
-use Rattle.answers.specs.declared.Refusal.{Refusal}
 use Rattle.guest.specs.declared.Given.{Given}
 use Rattle.guest.specs.declared.Map.{Map}
 use Rattle.guest.specs.Loading.{Plan}
 use Rattle.guest.specs.Room.{room, memoryOf}
 use Rattle.guest.specs.Stream.{pour, Stands}
 use Rattle.guest.proofs.StreamLaws.{poured-stands}
-use Rattle.guest.proofs.LoadingLaws.{nothing-written}
-use Rattle.guest.specs.declared.Answer.the-variants.{Loaded, Refused}
+use Rattle.guest.specs.declared.Answer.the-variants.{Loaded}
 use Rattle.guest.specs.declared.KernelLoaderResult.{KernelLoaderResult}
 use Rattle.guest.specs.declared.Answer.{Answer}
 use Rattle.bzimage.specs.Copied.{Copied}
 use Rattle.bzimage.specs.Kernel.{setupSize, kernelOf}
 use Rattle.bzimage.specs.Plan.{planOf, KernelLoads}
 use Rattle.bzimage.proofs.KernelLaws.{length-kernel, kernel-place}
-use Rattle.bzimage.proofs.PlanLaws.{hold-room, plan-loaded, loaded-plan, refused-plan}
+use Rattle.bzimage.proofs.PlanLaws.{hold-room, plan-loaded, loaded-plan}
 
 kernel-byte : (s : List ℕ) (i : ℕ) → getD (kernelOf s) i 0 ≡ getD s (setupSize s + i) 0
 unfolding kernelOf
@@ -55,8 +53,3 @@ module _ (image : List ℕ) (offset highmem : Given) (map : Map) (guest : List �
       stands-copied image (k .«kernel_load» .0)
       (poured-stands (kernelOf image) (k .«kernel_load» .0) guest (memoryOf guest map) has (omega arith)
       (loads .memory ∙ ap (λ (p : Plan Answer). pour (p .stream) guest) (loaded-plan image (memoryOf guest map) offset highmem (planned ∙ e))))
-
-  pub refused-untouched : {refusal : Refusal} → r ≡ Refused refusal → after ≡ guest
-  refused-untouched e =
-      nothing-written (planOf image (memoryOf guest map) offset highmem) guest after loads
-      (ap (λ (p : Plan Answer). p .stream) (refused-plan image (memoryOf guest map) offset highmem (planned ∙ e)))

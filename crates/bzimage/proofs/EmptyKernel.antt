@@ -16,8 +16,9 @@ use Rattle.guest.specs.Room.{memoryOf}
 use Rattle.guest.specs.Stream.{streamAt}
 use Rattle.guest.proofs.LoadingLaws.{nothing-written, behind-with}
 use Rattle.guest.specs.declared.Answer.{Answer}
+use Rattle.guest.specs.declared.Answer.the-variants.{Loaded, Refused}
 use Rattle.bzimage.specs.Kernel.{kernelSize, kernelOf, loadOf}
-use Rattle.bzimage.specs.Plan.{imageTests, roomTests, tests, loadedAt, Refused, kernelPlan, planOf, KernelLoads}
+use Rattle.bzimage.specs.Plan.{imageTests, roomTests, tests, loadedAs, kernelPlan, planOf, KernelLoads}
 use Rattle.bzimage.proofs.KernelLaws.{length-kernel}
 use Rattle.bzimage.proofs.PlanLaws.{room-for-none}
 use Rattle.bzimage.proofs.Refusals.{accepted-where}
@@ -30,7 +31,7 @@ module _ (image : List ℕ) (offset highmem : Given) (map : Map) (guest : List �
     (empty : kernelSize image ≡ 0) where
   -- where the tests of the image hold once, with any offset and memory
   pub accepted-anywhere : (other : Given) (m : Memory) → AllHold (tests image m other highmem) → AllHold (lentTests (length image) (memoryOf guest map))
-      → r ≡ loadedAt image (loadOf image offset)
+      → r ≡ Loaded (loadedAs image (loadOf image offset))
   accepted-anywhere other m once lent =
       let of-image =
       hold-left (imageTests image highmem) (roomTests image m other)

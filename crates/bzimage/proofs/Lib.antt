@@ -3,13 +3,10 @@ pub mod HeaderLaws
 pub mod KernelLaws
 pub mod PlanLaws
 pub mod Copied
-pub mod LongerGuest
-pub mod HolesUntouched
+pub mod MoreMemory
 pub mod WholeSlice
 pub mod Refusals
 pub mod Returned
-pub mod Parted
 pub mod Footprint
-pub mod Answers
+pub mod Outcomes
 pub mod EmptyKernel
-pub mod InSteps

@@ -1,9 +1,9 @@
 -- Each public function permits one outcome.
 use mathlib.Core.Path.{refl}
 use Rattle.answers.specs.Outcome.{OneOutcome}
-use Rattle.answers.proofs.Outcomes.{meet, first}
-use Rattle.bzimage.proofs.load.Kinds as load-kinds
-use Rattle.bzimage.proofs.load.Reads as load-reads
+use Rattle.answers.proofs.Outcomes.{meet}
+use Rattle.bzimage.proofs.header.header_with.Kinds as header-with-kinds
+use Rattle.bzimage.proofs.header.header_with.Reads as header-with-reads
 use Rattle.bzimage.proofs.setup_header.place.Kinds as place-kinds
 use Rattle.bzimage.proofs.setup_header.place.Reads as place-reads
 use Rattle.bzimage.proofs.parts.plan.Kinds as parts-plan-kinds
@@ -14,8 +14,8 @@ use Rattle.bzimage.proofs.parts.part.Reads as parts-part-reads
 pub place-one : OneOutcome 0 place-kinds.ps place-kinds.r place-reads.Post
 place-one κs a z z' ws ws' p q = (meet p q, refl)
 
-pub load-one : OneOutcome 2 load-kinds.ps load-kinds.r load-reads.Post
-load-one κs a z z' ws ws' p q = (meet (p .answer) (q .answer), first (meet (p .memory) (q .memory)))
+pub header-with-one : OneOutcome 1 header-with-kinds.ps header-with-kinds.r header-with-reads.Post
+header-with-one κs a z z' ws ws' p q = (meet p q, refl)
 
 pub parts-plan-one : OneOutcome 1 parts-plan-kinds.ps parts-plan-kinds.r parts-plan-reads.Post
 parts-plan-one κs a z z' ws ws' p q = (meet p q, refl)

@@ -2,7 +2,7 @@
 use Prim.Native.Nat.{ℕ, zero, suc, _+_, _^_, _<_}
 use mathlib.Core.Path.{_≡_, sym, _∙_, refl, ap, subst}
 use mathlib.Core.Bool.{Bool, true, false}
-use mathlib.Core.List.{List, _++_}
+use mathlib.Core.List.{List, _++_, append-nil}
 use native.Mathlib.Omega.{arith}
 use borrow.Author.Tests.{eq-eqb, ne-eqb}
 use lib.Dec.{eqb}
@@ -13,22 +13,24 @@ use Rattle.answers.specs.declared.Refusal.{Refusal}
 use Rattle.answers.specs.declared.Gate.{Gate}
 use Rattle.answers.specs.declared.Gate.the-variants.{Open, Shut}
 use Rattle.answers.proofs.TestsLaws.{open-all, hold-right}
+use Rattle.fields.proofs.RangesLaws.{sum-within}
 use Rattle.guest.specs.declared.Given.{Given}
-use Rattle.guest.specs.declared.Map.{Map}
 use Rattle.guest.specs.declared.GuestAddress.{GuestAddress}
 use Rattle.guest.specs.declared.Memory.{Memory}
 use Rattle.guest.specs.Addresses.{givenOr}
 use Rattle.guest.specs.Lent.{lentTests}
 use Rattle.guest.specs.Loading.{Plan, refusedPlan}
-use Rattle.guest.specs.Room.{room, memoryOf, Grows}
-use Rattle.guest.specs.Stream.{bytesAt, pour, streamAt}
+use Rattle.guest.specs.Room.{room, Grows}
+use Rattle.guest.specs.Parts.{Fits, partStream, partsFrom}
+use Rattle.guest.specs.Stream.{streamAt}
 use Rattle.guest.proofs.RoomLaws.{room-size}
 use Rattle.guest.proofs.LoadingLaws.{tests-open, tests-shut, all-planned, first-planned, behind-with}
+use Rattle.guest.specs.declared.Answer.{Answer}
 use Rattle.guest.specs.declared.Answer.the-variants.{Loaded, Refused}
 use Rattle.guest.specs.declared.KernelLoaderResult.{KernelLoaderResult}
-use Rattle.guest.specs.declared.Answer.{Answer}
-use Rattle.bzimage.specs.Kernel.{setupSize, kernelSize, startOf, loadOf}
-use Rattle.bzimage.specs.Plan.{imageTests, roomFor, roomTests, tests, loadedAs, loadedAt, Refused, kernelPlan, planOf, KernelLoads}
+use Rattle.bzimage.specs.Kernel.{setupSize, kernelSize, kernelOf, startOf, loadOf}
+use Rattle.bzimage.specs.Plan.{imageTests, roomFor, roomTests, tests, loadedAs, kernelPlan, planOf}
+use Rattle.bzimage.specs.Parts.{partOf}
 use Rattle.bzimage.proofs.KernelLaws.{kernel-bytes}
 
 -- ---- room for the kernel
@@ -87,19 +89,16 @@ module _ (s : List ℕ) (m : Memory) (offset highmem : Given) where
 
   -- a plan, by its answer: one that loads passed all tests, and one that refuses failed one
   loaded-at : {k : KernelLoaderResult} → kernel .answer ≡ Loaded k → k .«kernel_load» ≡ loadOf s offset
-  unfolding loadedAt
   loaded-at {k} e =
       let same : _≡_ {A = KernelLoaderResult} (loadedAs s (loadOf s offset)) k = cc in
       ap (λ (q : KernelLoaderResult). q .«kernel_load») (sym same)
 
   pub plan-loaded : {k : KernelLoaderResult} → planOf s m offset highmem .answer ≡ Loaded k → AllHold row × (k .«kernel_load» ≡ loadOf s offset)
-  unfolding Refused
   plan-loaded {k} =
       behind-with Refused row kernel (λ p. p .answer ≡ Loaded k → AllHold row × (k .«kernel_load» ≡ loadOf s offset))
       (λ hold e. (hold, loaded-at e)) (λ r fails e. let z : _≡_ {A = ℕ} 0 1 = cc in absurd (omega arith))
 
   pub plan-refused : {refusal : Refusal} → planOf s m offset highmem .answer ≡ Refused refusal → FirstFails refusal row
-  unfolding loadedAt Refused
   plan-refused {refusal} =
       behind-with Refused row kernel (λ p. p .answer ≡ Refused refusal → FirstFails refusal row)
       (λ hold e. let z : _≡_ {A = ℕ} 0 1 = cc in absurd (omega arith))
@@ -114,26 +113,22 @@ module _ (s : List ℕ) (m : Memory) (offset highmem : Given) where
       → planOf s m offset highmem ≡ refusedPlan Refused refusal
   refused-plan e = first-planned Refused row kernel (plan-refused e)
 
--- ---- the copy
+-- ---- of an accepted load the kernel fits, and is what is written
 
--- copying so many bytes from the setup size on is the load of a plan that loads
-pub copied-loads : (s : List ℕ) (offset highmem : Given) (map : Map) (guest : List ℕ) {r : Answer} {k : KernelLoaderResult} {p n : ℕ} {after : List ℕ}
-    → r ≡ planOf s (memoryOf guest map) offset highmem .answer → r ≡ Loaded k → p ≡ setupSize s → n ≡ kernelSize s
-    → after ≡ pour (streamAt (k .«kernel_load» .0) (bytesAt s p n)) guest → KernelLoads s offset highmem map guest r after
-copied-loads s offset highmem map guest {k = k} er e ep en ea =
-    let planned = loaded-plan s (memoryOf guest map) offset highmem (sym er ∙ e) in
-    record {
-      answer = er;
-      memory =
-          ea
-          ∙ ap (λ (vs : List ℕ). pour (streamAt (k .«kernel_load» .0) vs) guest) (kernel-bytes s ep en)
-          ∙ ap (λ (q : Plan Answer). pour (q .stream) guest) (sym planned);
-    }
+module _ (s : List ℕ) (m : Memory) (offset highmem : Given) {k : KernelLoaderResult} (is : planOf s m offset highmem .answer ≡ Loaded k) where
+  pub part-fits : Fits (length s) m (partOf s offset)
+  unfolding kernelSize
+  part-fits =
+      record {
+        in-image = λ some. sum-within (length s) (setupSize s) (kernelSize s) (omega arith);
+        in-guest = λ some. hold-room s m offset highmem (plan-loaded s m offset highmem is .0) some;
+      }
 
--- and of one that refuses nothing is written
-pub refused-loads : (s : List ℕ) (offset highmem : Given) (map : Map) (guest : List ℕ) {r : Answer} {refusal : Refusal}
-    → r ≡ planOf s (memoryOf guest map) offset highmem .answer → r ≡ Refused refusal → KernelLoads s offset highmem map guest r guest
-unfolding pour
-refused-loads s offset highmem map guest er e =
-    let planned = refused-plan s (memoryOf guest map) offset highmem (sym er ∙ e) in
-    record { answer = er; memory = ap (λ (q : Plan Answer). pour (q .stream) guest) (sym planned) }
+  pub parts-written : partsFrom 1 s (λ _. partOf s offset) 0 ≡ planOf s m offset highmem .stream
+  unfolding partsFrom partStream
+  parts-written =
+      let loaded = plan-loaded s m offset highmem is in
+      append-nil (partStream s (partOf s offset))
+      ∙ ap (streamAt (loadOf s offset .0)) (kernel-bytes s refl refl)
+      ∙ ap (λ a. streamAt (a .0) (kernelOf s)) (sym (loaded .1))
+      ∙ sym (ap (λ (p : Plan Answer). p .stream) (loaded-plan s m offset highmem is))

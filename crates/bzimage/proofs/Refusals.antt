@@ -17,9 +17,10 @@ use Rattle.guest.proofs.LoadingLaws.{all-planned, first-planned}
 use Rattle.guest.specs.declared.Answer.the-variants.{Loaded, Refused}
 use Rattle.guest.specs.declared.KernelLoaderResult.{KernelLoaderResult}
 use Rattle.guest.specs.declared.Answer.{Answer}
-use Rattle.bzimage.specs.Answers.{answerNumber, answerValues, bzImageNumbers}
+use Rattle.guest.specs.Answers.{answerNumber, answerValues, pvhCode, pvhAddress, pvhPlace, pvhSize}
+use Rattle.bzimage.specs.Answers.{bzImageNumbers}
 use Rattle.bzimage.specs.Kernel.{kernelSize, loadOf}
-use Rattle.bzimage.specs.Plan.{tests, loadedAt, Refused, kernelPlan, planOf, KernelLoads}
+use Rattle.bzimage.specs.Plan.{tests, loadedAs, kernelPlan, planOf, KernelLoads}
 use Rattle.bzimage.proofs.PlanLaws.{plan-loaded, plan-refused}
 
 module _ (image : List ℕ) (offset highmem : Given) (map : Map) (guest : List ℕ) {r : Answer} {after : List ℕ} (loads : KernelLoads image offset highmem map guest r after) where
@@ -31,7 +32,7 @@ module _ (image : List ℕ) (offset highmem : Given) (map : Map) (guest : List �
 
   -- ---- accepted exactly where every test holds
 
-  pub accepted-where : AllHold row → r ≡ loadedAt image (loadOf image offset)
+  pub accepted-where : AllHold row → r ≡ Loaded (loadedAs image (loadOf image offset))
   accepted-where h = loads .answer ∙ ap (λ (p : Plan Answer). p .answer) (all-planned Refused row (kernelPlan image (loadOf image offset)) h)
 
   pub where-accepted : {k : KernelLoaderResult} → r ≡ Loaded k → AllHold row
@@ -45,18 +46,18 @@ module _ (image : List ℕ) (offset highmem : Given) (map : Map) (guest : List �
   pub where-refused : {refusal : Refusal} → r ≡ Refused refusal → FirstFails refusal row
   where-refused e = plan-refused image (memoryOf guest map) offset highmem (planned ∙ e)
 
-  -- ---- the same by the catalogue: no number with the load address and the kernel's end, or the refusal's number alone
+  -- ---- the same by the catalogue: no number with the load address, the kernel's end and no PVH entry, or the refusal's number alone
 
   pub accepted-values : AllHold row
-      → (answerNumber r ≡ 0) × (answerValues r ≡ loadOf image offset .0 ∷ (loadOf image offset .0 + kernelSize image) ∷ [])
-  unfolding answerNumber answerValues loadedAt
+      → (answerNumber r ≡ 0) × (answerValues r ≡ loadOf image offset .0 ∷ (loadOf image offset .0 + kernelSize image) ∷ 0 ∷ 0 ∷ 0 ∷ 0 ∷ [])
+  unfolding answerNumber answerValues pvhCode pvhAddress pvhPlace pvhSize
   accepted-values h =
-      (ap (λ (o : Answer). answerNumber o) (accepted-where h), ap (λ (o : Answer). answerValues o) (accepted-where h))
+      (ap answerNumber (accepted-where h), ap answerValues (accepted-where h))
 
   pub refused-values : {refusal : Refusal} → FirstFails refusal row → (answerNumber r ≡ numberOf refusal) × (answerValues r ≡ [])
-  unfolding answerNumber answerValues Refused
+  unfolding answerNumber answerValues
   refused-values f =
-      (ap (λ (o : Answer). answerNumber o) (refused-where f), ap (λ (o : Answer). answerValues o) (refused-where f))
+      (ap answerNumber (refused-where f), ap answerValues (refused-where f))
 
 -- "Bad input gets its listed number": a refusal has one of these numbers and no other
 pub bzimage-listed : (image : List ℕ) (m : Memory) (offset highmem : Given) {refusal : Refusal} → planOf image m offset highmem .answer ≡ Refused refusal

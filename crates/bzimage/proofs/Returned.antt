@@ -1,28 +1,18 @@
 -- The sentence "the returned header holds the load address's low 32 bits in `code32_start`, all else as read", byte by byte, with the
--- bytes past the image as 0; and what stands beside a refusal: 123 zeros.
+-- bytes past the image as 0. `header::header_with` answers this header.
 use Prim.Native.Nat.{ℕ, zero, suc, _+_, _-_, _<_}
-use mathlib.Core.Path.{_≡_, sym, _∙_, refl, ap, subst⁻¹}
+use mathlib.Core.Path.{_≡_, _∙_, refl, ap}
 use mathlib.Core.List.{List}
 use native.Mathlib.Omega.{arith}
-use lib.ListN.{length, getD, replicate}
+use lib.ListN.{length, getD}
 use lib.Seq.{length-sets}
-use Rattle.answers.specs.declared.Refusal.{Refusal}
 use Rattle.fields.specs.Numbers.{leBytes}
 use Rattle.fields.proofs.CopyingLaws.{sets-outside}
 use Rattle.fields.proofs.HasBytesLaws.{stored-at}
 use Rattle.fields.proofs.NumbersLaws.{length-le-bytes, le-low}
-use Rattle.guest.specs.declared.Given.{Given}
-use Rattle.guest.specs.declared.Map.{Map}
-use Rattle.guest.specs.Loading.{Plan}
-use Rattle.guest.specs.Room.{memoryOf}
-use Rattle.guest.specs.declared.Answer.the-variants.{Loaded, Refused}
-use Rattle.guest.specs.declared.KernelLoaderResult.{KernelLoaderResult}
-use Rattle.guest.specs.declared.Answer.{Answer}
 use Rattle.bzimage.specs.SetupHeader.{headerSize, headerStart}
 use Rattle.bzimage.specs.Header.{bytesFrom, headerRead, headerOf}
-use Rattle.bzimage.specs.Plan.{loadedAt, Refused, planOf, KernelLoads}
 use Rattle.bzimage.specs.Returned.{startAt, Returned}
-use Rattle.bzimage.proofs.PlanLaws.{loaded-plan, refused-plan}
 
 -- ---- the bytes as read
 
@@ -50,22 +40,3 @@ header-returned image load =
       as-read = λ i h out. sets-outside (leBytes 4 load) (headerRead image) startAt i (λ low high. out low (omega arith)) ∙ byte-of headerSize image headerStart i h;
       start = le-low 4 load (headerOf image load) startAt (stored-at (leBytes 4 load) (headerRead image) startAt (omega arith));
     }
-
--- ---- of the load's contract
-
-module _ (image : List ℕ) (offset highmem : Given) (map : Map) (guest : List ℕ) {r : Answer} {after : List ℕ} (loads : KernelLoads image offset highmem map guest r after) where
-  planned : planOf image (memoryOf guest map) offset highmem .answer ≡ r
-  planned = sym (loads .answer)
-
-  pub accepted-header : {k : KernelLoaderResult} → r ≡ Loaded k → Returned image (k .«kernel_load» .0) (r .«setup_header»)
-  unfolding loadedAt
-  accepted-header {k} e =
-      let loaded = ap (λ (p : Plan Answer). p .answer) (loaded-plan image (memoryOf guest map) offset highmem (planned ∙ e)) in
-      subst⁻¹ (Returned image (k .«kernel_load» .0)) (ap (λ (o : Answer). o .«setup_header») (loads .answer ∙ loaded))
-      (header-returned image (k .«kernel_load» .0))
-
-  pub refused-header : {refusal : Refusal} → r ≡ Refused refusal → r .«setup_header» ≡ replicate headerSize 0
-  unfolding Refused
-  refused-header e =
-      let refused = ap (λ (p : Plan Answer). p .answer) (refused-plan image (memoryOf guest map) offset highmem (planned ∙ e)) in
-      ap (λ (o : Answer). o .«setup_header») (loads .answer ∙ refused)

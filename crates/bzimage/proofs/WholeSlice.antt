@@ -19,7 +19,7 @@ use Rattle.guest.specs.Sizes.{allowed}
 use Rattle.guest.specs.declared.Given.{Given}
 use Rattle.guest.proofs.RoomLaws.{whole-room, whole-lent}
 use Rattle.bzimage.specs.Kernel.{kernelSize, loadOf}
-use Rattle.bzimage.specs.Plan.{imageTests, roomFor, roomTests, Refused, kernelPlan, planOf}
+use Rattle.bzimage.specs.Plan.{imageTests, roomFor, roomTests, kernelPlan, planOf}
 use Rattle.bzimage.specs.WholeSlice.{roomWithin, planWithin}
 
 room-whole : (size address n : ℕ) → roomFor (wholeOf size) address n ≡ roomWithin size address n

@@ -6,7 +6,7 @@ pub mod Header
 pub mod Kernel
 pub mod Plan
 pub mod Answers
-pub mod Steps
+pub mod Parts
 -- what theorems are stated with beside it
 pub mod Copied
 pub mod Returned

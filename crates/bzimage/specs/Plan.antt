@@ -4,7 +4,7 @@ use mathlib.Core.Path.{_≡_}
 use mathlib.Core.Bool.{Bool, true}
 use mathlib.Core.List.{List, [], _∷_, _++_}
 use lib.Dec.{leb, eqb}
-use lib.ListN.{length, replicate}
+use lib.ListN.{length}
 use Rattle.answers.specs.Pick.{pick}
 use Rattle.answers.specs.Tests.{Test}
 use Rattle.answers.specs.declared.Refusal.{Refusal}
@@ -19,11 +19,11 @@ use Rattle.guest.specs.Lent.{lentTests}
 use Rattle.guest.specs.Loading.{Plan, Loads, behindTests}
 use Rattle.guest.specs.Room.{room, memoryOf}
 use Rattle.guest.specs.Stream.{streamAt}
+use Rattle.guest.specs.declared.Answer.{Answer}
 use Rattle.guest.specs.declared.Answer.the-variants.{Loaded, Refused}
 use Rattle.guest.specs.declared.KernelLoaderResult.{KernelLoaderResult}
-use Rattle.guest.specs.declared.Answer.{Answer}
-use Rattle.bzimage.specs.SetupHeader.{headerSize, headerMagic, version, loadflags}
-use Rattle.bzimage.specs.Header.{headerOf}
+use Rattle.guest.specs.declared.PvhBootCapability.the-variants.{PvhEntryIgnored}
+use Rattle.bzimage.specs.SetupHeader.{headerMagic, version, loadflags}
 use Rattle.bzimage.specs.Kernel.{setupSize, kernelSize, kernelOf, startOf, loadOf}
 
 -- the tests of the image, in their order
@@ -50,21 +50,14 @@ roomTests image m offset = (roomFor m (loadOf image offset .0) (kernelSize image
 abbrev pub tests : List ℕ → Memory → Given → Given → List Test
 tests image m offset highmem = lentTests (length image) m ++ imageTests image highmem ++ roomTests image m offset
 
--- a kernel loaded at an address ends its size after it
+-- a kernel loaded at an address ends its size after it, and has no PVH entry
 abbrev pub loadedAs : List ℕ → GuestAddress → KernelLoaderResult
-loadedAs image load = record { «kernel_load» = load; «kernel_end» = record { 0 = load .0 + kernelSize image } }
-
--- what is answered where all tests hold: the kernel, and the header with its address
-unfoldable pub loadedAt : List ℕ → GuestAddress → Answer
-loadedAt image load = record { answer = Loaded (loadedAs image load); «setup_header» = headerOf image (load .0) }
-
--- what is answered by a refusal: beside it the header is all zero
-unfoldable pub Refused : Refusal → Answer
-Refused refusal = record { answer = Refused refusal; «setup_header» = replicate headerSize 0 }
+loadedAs image load =
+    record { «kernel_load» = load; «kernel_end» = record { 0 = load .0 + kernelSize image }; «pvh_boot_cap» = PvhEntryIgnored }
 
 -- a kernel loaded at an address is written from there on
 abbrev pub kernelPlan : List ℕ → GuestAddress → Plan Answer
-kernelPlan image load = record { answer = loadedAt image load; stream = streamAt (load .0) (kernelOf image) }
+kernelPlan image load = record { answer = Loaded (loadedAs image load); stream = streamAt (load .0) (kernelOf image) }
 
 abbrev pub planOf : List ℕ → Memory → Given → Given → Plan Answer
 planOf image m offset highmem = behindTests Refused (tests image m offset highmem) (kernelPlan image (loadOf image offset))

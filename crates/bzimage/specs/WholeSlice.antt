@@ -13,8 +13,9 @@ use Rattle.guest.specs.Loading.{Plan, behindTests}
 use Rattle.guest.specs.Sizes.{allowed}
 use Rattle.guest.specs.declared.Given.{Given}
 use Rattle.guest.specs.declared.Answer.{Answer}
+use Rattle.guest.specs.declared.Answer.the-variants.{Refused}
 use Rattle.bzimage.specs.Kernel.{kernelSize, loadOf}
-use Rattle.bzimage.specs.Plan.{imageTests, Refused, kernelPlan}
+use Rattle.bzimage.specs.Plan.{imageTests, kernelPlan}
 
 -- is there room for n bytes at an address? For none there always is
 unfoldable pub roomWithin : ℕ → ℕ → ℕ → Bool

@@ -7,7 +7,7 @@
 //
 // SPDX-License-Identifier: Apache-2.0 AND BSD-3-Clause
 
-// The setup header as a load returns it.
+// The setup header that goes with a load: a function of the image and the load address.
 ghost use mathlib.Core.Path.{_≡_};
 ghost use Rattle.bzimage.specs.Header.{headerOf};
 use crate::setup_header;
@@ -16,7 +16,7 @@ use fields::numbers;
 use guest::GuestAddress;
 
 // The header as it is read, bytes past the image as 0, with the load address's low 32 bits in `code32_start`.
-pub(crate) fn header_with(image: &[u8], load: GuestAddress) -> [u8; 123]
+pub fn header_with(image: &[u8], load: GuestAddress) -> [u8; 123]
     ensures { λ r. ⌜ r ≡ headerOf (now (image .entry)) (load .0) ⌝ }
 {
     let mut header = [0u8; 123];

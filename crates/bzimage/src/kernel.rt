@@ -10,14 +10,9 @@
 // What an image says of its kernel: where it lies in the image, and where it goes.
 ghost use mathlib.Core.Path.{_≡_};
 ghost use Rattle.bzimage.specs.Kernel.{Sectors, setupSize, kernelSize, startOf};
-ghost use Rattle.bzimage.specs.Steps.{kernelPart};
 use crate::setup_header;
 use fields::numbers;
-use guest::Given;
 use guest::GuestAddress;
-use guest::ImagePlace;
-use guest::Part;
-use guest::addresses;
 
 // The sectors of the setup. An image that says 0 means 4.
 fn sectors(image: &[u8]) -> u64
@@ -51,15 +46,4 @@ pub(crate) fn code32_start(image: &[u8]) -> GuestAddress
     ensures { λ r. ⌜ r ≡ startOf (now (image .entry)) ⌝ }
 {
     GuestAddress(numbers::read_u32(image, setup_header::place(setup_header::CODE32_START)))
-}
-
-// The kernel, as a part of the image.
-pub(crate) fn kernel_part(image: &[u8], offset: Given) -> Part
-    ensures { λ r. ⌜ r ≡ kernelPart (now (image .entry)) offset ⌝ }
-{
-    Part {
-        address: addresses::given_or(offset, code32_start(image)),
-        place: ImagePlace(setup_size(image)),
-        size: kernel_size(image),
-    }
 }

@@ -1,14 +1,15 @@
-// The plan of a load and its one part, with no guest memory lent: what the load answers, and which image bytes go where.
+// The plan of a load and its one part: what the load answers, and which image bytes go where.
 ghost use mathlib.Core.Path.{_≡_};
+ghost use Rattle.bzimage.specs.Parts.{partOf};
 ghost use Rattle.bzimage.specs.Plan.{planOf};
-ghost use Rattle.bzimage.specs.Steps.{partOf};
-use crate::Answer;
 use crate::kernel;
 use crate::plan;
+use guest::Answer;
 use guest::Given;
+use guest::ImagePlace;
 use guest::Memory;
 use guest::Part;
-use guest::parts;
+use guest::addresses;
 
 // What a load into this memory answers.
 pub fn plan(memory: Memory, image: &[u8], kernel_offset: Given, highmem_start: Given) -> Answer
@@ -17,10 +18,13 @@ pub fn plan(memory: Memory, image: &[u8], kernel_offset: Given, highmem_start: G
     plan::plan_load(image, memory, kernel_offset, highmem_start)
 }
 
-// The part of a load into this memory: the kernel, where it has room.
-pub fn part(memory: Memory, image: &[u8], kernel_offset: Given) -> Part
-    ensures { λ r. ⌜ r ≡ partOf (now (image .entry)) memory «kernel_offset» ⌝ }
+// The part of a load: the kernel. Whether it has room is the plan's to say.
+pub fn part(image: &[u8], kernel_offset: Given) -> Part
+    ensures { λ r. ⌜ r ≡ partOf (now (image .entry)) «kernel_offset» ⌝ }
 {
-    let part = kernel::kernel_part(image, kernel_offset);
-    parts::kept(image.len() as u64, memory, part)
+    Part {
+        address: addresses::given_or(kernel_offset, kernel::code32_start(image)),
+        place: ImagePlace(kernel::setup_size(image)),
+        size: kernel::kernel_size(image),
+    }
 }

@@ -9,13 +9,11 @@
 
 // The plan of a load: the tests in their order, and the answer.
 ghost use mathlib.Core.Path.{_≡_};
-ghost use Rattle.bzimage.specs.Plan.{roomFor, tests, Refused, planOf};
+ghost use Rattle.bzimage.specs.Plan.{roomFor, tests, planOf};
 ghost use Rattle.answers.specs.Tests.{askedAll};
 ghost use Rattle.answers.specs.declared.Gate.the-variants.{Open};
 use guest::Answer;
 use guest::KernelLoaderResult;
-use crate::Answer;
-use crate::header;
 use crate::kernel;
 use crate::setup_header;
 use answers::Gate;
@@ -24,6 +22,7 @@ use fields::numbers;
 use guest::Given;
 use guest::GuestAddress;
 use guest::Memory;
+use guest::PvhBootCapability;
 use guest::addresses;
 use guest::lent;
 use guest::room;
@@ -63,35 +62,22 @@ fn validate(image: &[u8], memory: Memory, offset: Given, highmem: Given) -> Gate
     answers::require(gate, room, Refusal::ReadBzImageCompressedKernel)
 }
 
-pub(crate) fn refused(refusal: Refusal) -> Answer
-    ensures { λ r. ⌜ r ≡ Refused refusal ⌝ }
-{
-    Answer {
-        answer: Answer::Refused(refusal),
-        setup_header: [0; 123],
-    }
-}
-
 // What a load into a memory answers.
 pub(crate) fn plan_load(image: &[u8], memory: Memory, offset: Given, highmem: Given) -> Answer
     ensures { λ r. ⌜ r ≡ planOf (now (image .entry)) memory offset highmem .answer ⌝ }
 {
     let gate = validate(image, memory, offset, highmem);
     match gate {
-        Gate::Shut(refusal) => refused(refusal),
+        Gate::Shut(refusal) => Answer::Refused(refusal),
         Gate::Open => {
             let load = addresses::given_or(offset, kernel::code32_start(image));
             let bytes = kernel::kernel_size(image);
             let end = load.0 + bytes;
-            let header = header::header_with(image, load);
-            let loaded = KernelLoaderResult {
+            Answer::Loaded(KernelLoaderResult {
                 kernel_load: load,
                 kernel_end: GuestAddress(end),
-            };
-            Answer {
-                answer: Answer::Loaded(loaded),
-                setup_header: header,
-            }
+                pvh_boot_cap: PvhBootCapability::PvhEntryIgnored,
+            })
         }
     }
 }

@@ -11,7 +11,7 @@ pub mod HeaderCount
 pub mod NoteVerdicts
 pub mod NotesLengthened
 pub mod Lengthened
-pub mod MoreRoom
+pub mod MoreMemory
 pub mod WholeSlice
 pub mod PartsLaws
 pub mod KernelEnd

@@ -1,30 +1,34 @@
 -- Laws of the parts of a load.
 use Prim.Native.Nat.{ℕ, zero, suc, _+_, _*_, _≤_, _<_}
-use mathlib.Core.Path.{_≡_, sym, _∙_, refl, subst}
+use mathlib.Core.Path.{_≡_, sym, _∙_, refl, ap, subst, subst⁻¹}
 use mathlib.Core.List.{List, []}
 use native.Mathlib.Omega.{arith}
 use native.Mathlib.Decide.{decLe, ℕ-discrete}
 use borrow.Author.Tests.{eq-eqb, ne-eqb, lt-ltb, le-ltb, eqb-true}
 use lib.ListN.{length}
 use Rattle.answers.specs.Pick.{pick}
+use Rattle.answers.specs.declared.Refusal.{Refusal}
 use Rattle.answers.proofs.PickLaws.{pick-with}
 use Rattle.fields.proofs.RangesLaws.{sum-within}
 use Rattle.guest.specs.Addresses.{amountOf}
 use Rattle.guest.specs.Parts.{partStream, noPart, partsFrom, Fits}
 use Rattle.guest.specs.Stream.{streamAt}
+use Rattle.guest.specs.declared.Answer.{Answer}
+use Rattle.guest.specs.declared.Answer.the-variants.{Loaded, Refused}
 use Rattle.guest.specs.declared.Given.{Given}
+use Rattle.guest.specs.declared.KernelLoaderResult.{KernelLoaderResult}
 use Rattle.guest.specs.declared.Memory.{Memory}
 use Rattle.guest.specs.declared.Part.{Part}
 use Rattle.guest.proofs.PartsLaws.{empty-stream, none-fits}
 use Rattle.elf.specs.Header.{e-phoff, e-phnum, programHeaderSize}
 use Rattle.elf.specs.ProgramHeaders.{headerPlace, headerOf}
-use Rattle.elf.specs.Pouring.{segmentStream, streamFrom, wholeStream, planOf}
+use Rattle.elf.specs.Pouring.{segmentStream, streamFrom, wholeStream, ifLoaded, planOf}
 use Rattle.elf.specs.Parts.{headerPart, partAt, partOf}
 use Rattle.elf.specs.Rules.{SegmentFits, SegmentRules}
-use Rattle.elf.specs.Verdict.{Accepted}
+use Rattle.elf.specs.Verdict.{Accepted, is-accepted}
 use Rattle.elf.specs.declared.program_headers.ProgramHeader.{ProgramHeader}
 use Rattle.elf.proofs.FitsLaws.{accepted-stand, accepted-fit}
-use Rattle.elf.proofs.PouringLaws.{stream-none, stream-empty, stream-loads}
+use Rattle.elf.proofs.PouringLaws.{stream-none, stream-empty, stream-loads, plan-stream}
 
 -- the part of any number, as code works it out
 module _ (image : List ℕ) (offset : Given) (i : ℕ) where
@@ -103,3 +107,14 @@ pub parts-whole : (image : List ℕ) (m : Memory) (offset highmem : Given) → A
 unfolding wholeStream
 parts-whole image m offset highmem ok =
     parts-same image m offset (e-phnum image) 0 (omega arith) (accepted-stand image m offset highmem ok .stands) (accepted-fit image m offset highmem ok)
+
+-- the stream of a plan, by its answer
+module _ (image : List ℕ) (m : Memory) (offset highmem : Given) where
+  pub parts-written : {k : KernelLoaderResult} → planOf image m offset highmem .answer ≡ Loaded k
+      → partsFrom (e-phnum image) image (partOf image offset) 0 ≡ planOf image m offset highmem .stream
+  parts-written is =
+      parts-whole image m offset highmem (subst⁻¹ Accepted is is-accepted)
+      ∙ sym (plan-stream image m offset highmem ∙ ap (λ (a : Answer). ifLoaded a (wholeStream image offset)) is)
+
+  pub none-written : {r : Refusal} → planOf image m offset highmem .answer ≡ Refused r → planOf image m offset highmem .stream ≡ []
+  none-written is = plan-stream image m offset highmem ∙ ap (λ (a : Answer). ifLoaded a (wholeStream image offset)) is

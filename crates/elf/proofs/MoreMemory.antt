@@ -1,26 +1,26 @@
 -- "More room or more data never turns one answer into another", of an ELF load: within the size limits and while the old map and the new are
--- good ones, memory that grows, an ELF image lengthened at its end, or both, give an accepted load the same results and old guest bytes,
--- the added memory untouched; and any refusal not for missing image bytes or guest room stays as it was. Memory grows where every room
--- of the old is room of the new: a slice lengthened, a range added, the last range lengthened, and these together (`larger-grows`). An
--- image lengthened alone asks nothing of the map. The theorems speak of whatever the contract of `load` permits.
+-- valid ones, an ELF image lengthened at its end, with memory that grows or without, gives an accepted load the same results and old guest bytes,
+-- the added memory untouched; and any refusal not for missing image bytes or guest room stays as it was. What memory that grows says of a load of any
+-- format is in `loads` (MoreMemory), by `plan-keeps`. An image lengthened by itself asks nothing of the map.
 use Prim.Native.Nat.{ℕ, _≤_}
-use mathlib.Core.Path.{_≡_, sym, _∙_, refl, ap, subst⁻¹}
+use mathlib.Core.Path.{_≡_, sym, _∙_, refl, ap, subst, subst⁻¹}
 use mathlib.Core.Bool.{true}
 use mathlib.Core.List.{List, [], _++_, append-nil}
 use mathlib.Core.Logic.{_⊎_, inl, inr}
 use native.Mathlib.Omega.{arith}
-use lib.ListN.{length, length-append}
+use lib.ListN.{length}
+use Rattle.answers.specs.Keeping.{Keeps}
 use Rattle.answers.specs.declared.Refusal.{Refusal}
 use Rattle.answers.specs.declared.Refusal.the-variants.{ReadKernelImage}
 use Rattle.guest.specs.Maps.{goodMap}
-use Rattle.guest.specs.Room.{Grows, Larger, memoryOf}
+use Rattle.guest.specs.Room.{Grows, memoryOf}
 use Rattle.guest.specs.Sizes.{allowed, longest}
 use Rattle.guest.specs.Loading.{RefusedFor}
 use Rattle.guest.specs.declared.Given.{Given}
 use Rattle.guest.specs.declared.Map.{Map}
-use Rattle.guest.proofs.MapsLaws.{good-longer}
-use Rattle.guest.proofs.RoomLaws.{longer-grows, larger-grows, allowed-longer, lent-stays}
-use Rattle.guest.proofs.LoadingLaws.{load-kept}
+use Rattle.guest.specs.declared.Memory.{Memory}
+use Rattle.guest.proofs.RoomLaws.{longer-grows, allowed-longer, lent-stays}
+use Rattle.guest.proofs.LoadingLaws.{LiftPlan, load-kept}
 use Rattle.elf.specs.Pouring.{planOf}
 use Rattle.elf.specs.Load.{LoadSays}
 use Rattle.elf.specs.Lengthening.{ForBytes, segment, ForRoom}
@@ -28,6 +28,14 @@ use Rattle.guest.specs.declared.Answer.{Answer}
 use Rattle.guest.specs.declared.Answer.the-variants.{Refused}
 use Rattle.elf.proofs.FitsLaws.{plan-inside}
 use Rattle.elf.proofs.Lengthened.{plan-longer}
+
+-- guest memory grows: the plan is the same, or it refused for room
+pub plan-keeps : (image : List ℕ) (m m' : Memory) (offset highmem : Given) → Grows m m' → allowed (m' .size) ≡ allowed (m .size)
+    → goodMap (m' .size) (m' .map) ≡ goodMap (m .size) (m .map) → Keeps (LiftPlan Refused ForRoom) (planOf image m offset highmem) (planOf image m' offset highmem)
+plan-keeps image m m' offset highmem grows both maps =
+    subst (λ s. Keeps (LiftPlan Refused ForRoom) (planOf image m offset highmem) (planOf s m' offset highmem)) (append-nil image)
+    (plan-longer image [] ForRoom (λ _ _. inl refl) m m' grows segment offset highmem
+    (lent-stays ForRoom m m' both maps (length image) (length (image ++ [])) (ap (λ s. allowed (length s)) (append-nil image))))
 
 module _ (offset highmem : Given) (image : List ℕ) (map : Map) (before : List ℕ) {r r' : Answer} {after after' : List ℕ}
     (says : LoadSays image offset highmem map before r after) where
@@ -43,27 +51,7 @@ module _ (offset highmem : Given) (image : List ℕ) (map : Map) (before : List 
       (lent-stays Lifts (memoryOf before map) (memoryOf (before ++ more) map') guests maps (length image) (length (image ++ bytes)) images))
       more says' stays
 
-  -- guest memory grows, its slice lengthened by more, which may be nothing
-  pub guest-grows : (more : List ℕ) (map' : Map) → length (before ++ more) ≤ longest → goodMap (length before) map ≡ true
-      → goodMap (length (before ++ more)) map' ≡ true → Grows (memoryOf before map) (memoryOf (before ++ more) map')
-      → LoadSays image offset highmem map' (before ++ more) r' after' → (RefusedFor Refused ForRoom r → ⊥) → (r' ≡ r) × (after' ≡ after ++ more)
-  guest-grows more map' short good good' grows says' stays =
-      kept-by ForRoom segment [] more map' (λ _ _. inl refl) (ap (λ l. allowed (length l)) (append-nil image)) (allowed-longer before more short)
-      (good' ∙ sym good) grows (subst⁻¹ (λ s. LoadSays s offset highmem map' (before ++ more) r' after') (append-nil image) says') stays
-
-  -- its slice is lengthened alone, or it is made larger in any of the ways
-  pub guest-longer : (more : List ℕ) → length (before ++ more) ≤ longest → goodMap (length before) map ≡ true
-      → LoadSays image offset highmem map (before ++ more) r' after' → (RefusedFor Refused ForRoom r → ⊥) → (r' ≡ r) × (after' ≡ after ++ more)
-  guest-longer more short good says' stays =
-      guest-grows more map short good (good-longer (length before) (length (before ++ more)) map (simp length-append (omega arith)) good)
-      (longer-grows before more map) says' stays
-
-  pub guest-larger : (more : List ℕ) (map' : Map) → length (before ++ more) ≤ longest → goodMap (length before) map ≡ true
-      → goodMap (length (before ++ more)) map' ≡ true → Larger (memoryOf before map) (memoryOf (before ++ more) map')
-      → LoadSays image offset highmem map' (before ++ more) r' after' → (RefusedFor Refused ForRoom r → ⊥) → (r' ≡ r) × (after' ≡ after ++ more)
-  guest-larger more map' short good good' larger says' stays = guest-grows more map' short good good' (larger-grows larger) says' stays
-
-  -- and the image is lengthened by bytes
+  -- guest memory grows, its slice lengthened by more, which may be nothing, and the image is lengthened by bytes
   pub both-grow : (bytes more : List ℕ) (map' : Map) → length (image ++ bytes) ≤ longest → length (before ++ more) ≤ longest
       → goodMap (length before) map ≡ true → goodMap (length (before ++ more)) map' ≡ true → Grows (memoryOf before map) (memoryOf (before ++ more) map')
       → LoadSays (image ++ bytes) offset highmem map' (before ++ more) r' after' → (RefusedFor Refused ForBytes r → ⊥)
