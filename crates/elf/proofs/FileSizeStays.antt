@@ -1,24 +1,27 @@
 -- "Demand 3 counts 14 among the refusals that more room does not lift": a segment with more bytes in the file than in memory is refused the
 -- same, however guest memory grows, the image is lengthened, or both.
 use Prim.Native.Nat.{ℕ, _≤_}
-use mathlib.Core.Path.{_≡_, sym, _∙_}
+use mathlib.Core.Path.{_≡_, sym, _∙_, ap}
 use mathlib.Core.Bool.{true}
 use mathlib.Core.List.{List, _++_}
 use native.Mathlib.Omega.{arith}
 use lib.ListN.{length}
 use Rattle.answers.specs.declared.Refusal.{Refusal}
 use Rattle.answers.specs.declared.Refusal.the-variants.{InvalidProgramHeaderFileSize}
-use Rattle.guest.specs.Loading.{RefusedFor}
+use Rattle.answers.proofs.KeepingLaws.{kept}
+use Rattle.guest.specs.Loading.{Plan, RefusedFor}
 use Rattle.guest.specs.Maps.{goodMap}
 use Rattle.guest.specs.Room.{Grows, memoryOf}
 use Rattle.guest.specs.Sizes.{longest}
 use Rattle.guest.specs.declared.Given.{Given}
 use Rattle.guest.specs.declared.Map.{Map}
+use Rattle.guest.proofs.LoadingLaws.{LiftPlan}
+use Rattle.guest.proofs.RoomLaws.{allowed-longer}
 use Rattle.elf.specs.Load.{LoadSays}
 use Rattle.elf.specs.Lengthening.{ForBytes, header, program-header, segment, note, ForRoom}
 use Rattle.guest.specs.declared.Answer.{Answer}
 use Rattle.guest.specs.declared.Answer.the-variants.{Refused}
-use Rattle.elf.proofs.MoreRoom.{guest-grows, image-longer, both-grow}
+use Rattle.elf.proofs.MoreMemory.{plan-keeps, image-longer, both-grow}
 
 -- it is of no kind that may lift
 not-bytes : {r : Refusal} → ForBytes r → r ≡ InvalidProgramHeaderFileSize → ⊥
@@ -43,7 +46,13 @@ module _ (offset highmem : Given) (image : List ℕ) (map : Map) (before : List 
       → goodMap (length (before ++ more)) map' ≡ true → Grows (memoryOf before map) (memoryOf (before ++ more) map')
       → LoadSays image offset highmem map' (before ++ more) r' after' → r' ≡ Refused InvalidProgramHeaderFileSize
   stays-guest more map' short good good' grows says' =
-      guest-grows offset highmem image map before says more map' short good good' grows says' (stays-for (λ _. not-room) is) .0 ∙ is
+      says' .answer
+      ∙ ap (λ (p : Plan Answer). p .answer)
+      (kept (LiftPlan Refused ForRoom)
+      (plan-keeps image (memoryOf before map) (memoryOf (before ++ more) map') offset highmem grows (allowed-longer before more short) (good' ∙ sym good))
+      (stays-for (λ _. not-room) (sym (says .answer) ∙ is)))
+      ∙ sym (says .answer)
+      ∙ is
 
   pub stays-image : (bytes : List ℕ) → length (image ++ bytes) ≤ longest → LoadSays (image ++ bytes) offset highmem map before r' after'
       → r' ≡ Refused InvalidProgramHeaderFileSize
