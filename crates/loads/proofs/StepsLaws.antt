@@ -1,36 +1,45 @@
--- Laws of a load in steps, for every loader: a call that is refused, a step after the answer, and what any step keeps to.
-use Prim.Native.Nat.{ℕ, zero, suc, _+_, _-_, _≤_, _<_, min}
+-- Laws of a load in steps: a call that is refused, a step after the answer, what any step keeps to, and a step as the code takes it.
+use Prim.Native.Nat.{ℕ, _-_, _≤_, _<_, min}
 use mathlib.Core.Path.{_≡_, sym, _∙_, refl, ap, subst, subst⁻¹}
-use mathlib.Core.Bool.{Bool, true, false, _||_, _&&_}
-use mathlib.Core.List.{List, [], _∷_, _++_}
+use mathlib.Core.Bool.{Bool, true, false, not, _||_, _&&_}
+use mathlib.Core.List.{List, []}
 use native.Mathlib.Omega.{arith}
 use borrow.Author.Tests.{lt-ltb, eq-eqb}
 use lib.Dec.{eqb}
 use lib.ListN.{length, take, drop, length-take, length-drop}
-use lib.Seq.{take-nil}
 use Rattle.answers.specs.Pick.{pick}
-use Rattle.answers.specs.Tests.{Test, askedAll, AllHold}
+use Rattle.answers.specs.Tests.{askedAll, AllHold}
 use Rattle.answers.specs.declared.Gate.{Gate}
 use Rattle.answers.specs.declared.Gate.the-variants.{Open, Shut}
 use Rattle.answers.specs.declared.Refusal.{Refusal}
 use Rattle.answers.proofs.BoolLaws.{right-holds}
-use Rattle.answers.proofs.PickLaws.{pick-with}
+use Rattle.answers.proofs.PickLaws.{pick-with, failed, held}
 use Rattle.answers.proofs.TestsLaws.{all-open, hold-append}
+use Rattle.guest.specs.Answers.{isLoaded}
 use Rattle.guest.specs.Lent.{lentTests}
-use Rattle.guest.specs.Loading.{Plan}
-use Rattle.guest.specs.Parts.{Stands, partsFrom, leftOf, portionOf}
+use Rattle.guest.specs.Loading.{Plan, Loads}
+use Rattle.guest.specs.Parts.{partsFrom, portionOf}
 use Rattle.guest.specs.Room.{sameMemory}
-use Rattle.guest.specs.Runs.{Bounded}
-use Rattle.guest.specs.Steps.{Course, Held, Reply, more, answers, refused, Went, isFresh, asFirst, budgetTests, stepTests, still, wentTo, goOn, begun, firstStep, byStage, ifOpen, stepPlan}
-use Rattle.guest.specs.Stream.{Poke, Inside, none}
+use Rattle.guest.specs.Stream.{none, pour}
+use Rattle.guest.specs.declared.Answer.{Answer}
 use Rattle.guest.specs.declared.Memory.{Memory}
-use Rattle.guest.specs.declared.Part.{Part}
-use Rattle.guest.specs.declared.Progress.{Progress}
-use Rattle.guest.specs.declared.Stage.{Stage}
-use Rattle.guest.specs.declared.Stage.the-variants.{Fresh, Copying, Done}
+use Rattle.guest.specs.declared.Portion.{Portion}
 use Rattle.guest.proofs.PartsLaws.{parts-inside}
 use Rattle.guest.proofs.RoomLaws.{memory-self}
 use Rattle.guest.proofs.StreamLaws.{inside-take, inside-drop}
+use Rattle.loads.specs.Calls.{begunWith, movedTo, isFresh, asFirst, budgetTests, stepTests}
+use Rattle.loads.specs.Formats.{answerOf, countOf}
+use Rattle.loads.specs.Portions.{Bounded}
+use Rattle.loads.specs.Steps.{testedPart, startedState, unchanged, stays, replyAfter, nextPortion, firstStep, byStage, ifOpen, stepPlan}
+use Rattle.loads.specs.declared.Options.{Options}
+use Rattle.loads.specs.declared.Progress.{Progress}
+use Rattle.loads.specs.declared.Stage.{Stage}
+use Rattle.loads.specs.declared.Stage.the-variants.{Fresh, Copying, Done}
+use Rattle.loads.specs.declared.steps.Reply.{Reply}
+use Rattle.loads.specs.declared.steps.Reply.the-variants as reply
+use Rattle.loads.specs.declared.steps.State.{State}
+use Rattle.loads.specs.declared.steps.Stepped.{Stepped}
+use Rattle.loads.proofs.FormatsLaws.{parts-stand}
 
 picked-true : {A : Type 0} (b : Bool) (x y : A) → b ≡ true → pick b x y ≡ x
 unfolding pick
@@ -52,64 +61,119 @@ unfolding asFirst
 later-first g len m el em =
     right-holds (isFresh (g .stage)) (eqb (g .«image_len») len && sameMemory (g .memory) m) (rw (eq-eqb (g .«image_len») len el, em, memory-self m))
 
-module _ {A : Type 0} (c : Course A) (image : List ℕ) (m : Memory) (held : Held A) (b : ℕ) where
-  pub step-open : AllHold (lentTests (length image) m) → 0 < b → asFirst (held .progress) (length image) m ≡ true
-      → stepPlan c image m held b ≡ byStage (held .progress .stage) c image m held b
+module _ (image : List ℕ) (m : Memory) (st : State) (b : ℕ) where
+  pub step-open : AllHold (lentTests (length image) m) → 0 < b → asFirst (st .progress) (length image) m ≡ true
+      → stepPlan image m st b ≡ byStage (st .progress .stage) image m st b
   unfolding stepPlan
   step-open lent positive first =
-      ap (λ g. ifOpen g held (byStage (held .progress .stage) c image m held b))
-      (all-open (stepTests (held .progress) (length image) m b)
-      (hold-append (lentTests (length image) m) (budgetTests (held .progress) (length image) m b) lent (lt-ltb 0 b positive, (first, tt))))
+      ap (λ g. ifOpen g st (byStage (st .progress .stage) image m st b))
+      (all-open (stepTests (st .progress) (length image) m b)
+      (hold-append (lentTests (length image) m) (budgetTests (st .progress) (length image) m b) lent (lt-ltb 0 b positive, (first, tt))))
 
-  -- 60, 77, 63, 64, the first that fails: what is kept, memory and the answer are as they were
-  pub step-refused : {r : Refusal} → askedAll Open (stepTests (held .progress) (length image) m b) ≡ Shut r → stepPlan c image m held b ≡ still held (refused r)
+  -- 60, 77, 63, 64, the first that fails: the state, memory and the answer are as they were
+  pub step-refused : {r : Refusal} → askedAll Open (stepTests (st .progress) (length image) m b) ≡ Shut r → stepPlan image m st b ≡ stays st (reply.Refused r)
   unfolding stepPlan
-  step-refused e = ap (λ g. ifOpen g held (byStage (held .progress .stage) c image m held b)) e
+  step-refused e = ap (λ g. ifOpen g st (byStage (st .progress .stage) image m st b)) e
 
   -- after the answer every other step repeats it and copies nothing, whatever the image holds by now
-  pub step-repeats : AllHold (lentTests (length image) m) → 0 < b → asFirst (held .progress) (length image) m ≡ true → held .progress .stage ≡ Done
-      → stepPlan c image m held b ≡ still held (answers (held .answer))
-  step-repeats lent positive first done = step-open lent positive first ∙ ap (λ s. byStage s c image m held b) done
+  pub step-repeats : AllHold (lentTests (length image) m) → 0 < b → asFirst (st .progress) (length image) m ≡ true → st .progress .stage ≡ Done
+      → stepPlan image m st b ≡ stays st (reply.Answers (st .answer))
+  step-repeats lent positive first done = step-open lent positive first ∙ ap (λ s. byStage s image m st b) done
 
 -- the first step, by whether the load loads
-module _ {A : Type 0} (c : Course A) (image : List ℕ) (m : Memory) (b : ℕ) where
-  pub first-loads : c .loads ≡ true → firstStep c image m b ≡ goOn c image (begun c (length image) m) b
+module _ (image : List ℕ) (m : Memory) (o : Options) (b : ℕ) where
+  first-loads : isLoaded (answerOf image m o) ≡ true → firstStep image m o b ≡ nextPortion image m (startedState image m o) b
   unfolding firstStep
-  first-loads e = picked-true (c .loads) (goOn c image (begun c (length image) m) b) (still (begun c (length image) m) (answers (c .answer))) e
+  first-loads e = picked-true _ (nextPortion image m (startedState image m o) b) (stays (startedState image m o) (reply.Answers (answerOf image m o))) e
 
-  pub first-refused : c .loads ≡ false → firstStep c image m b ≡ still (begun c (length image) m) (answers (c .answer))
+  first-refused : isLoaded (answerOf image m o) ≡ false → firstStep image m o b ≡ stays (startedState image m o) (reply.Answers (answerOf image m o))
   unfolding firstStep
-  first-refused e = picked-false (c .loads) (goOn c image (begun c (length image) m) b) (still (begun c (length image) m) (answers (c .answer))) e
+  first-refused e = picked-false _ (nextPortion image m (startedState image m o) b) (stays (startedState image m o) (reply.Answers (answerOf image m o))) e
 
--- ---- what any step keeps to, from any state and with any image
+-- ---- "a step still ends within its budget": what any step keeps to, from any state and with any image
 
-still-bounded : {A : Type 0} (m : Memory) (b : ℕ) (held : Held A) (reply : Reply A) → Bounded m b (still held reply)
-still-bounded m b held reply = record { inside = none; few = omega arith; reported = refl }
+stays-bounded : (m : Memory) (b : ℕ) (st : State) (r : Reply) → Bounded m b (stays st r)
+stays-bounded m b st r = record { inside = none; few = omega arith; reported = refl }
 
-module _ {A : Type 0} (c : Course A) (image : List ℕ) (m : Memory) (stand : (j : ℕ) → Stands (length image) m (c .part j)) where
-  goes-bounded : (held : Held A) (b : ℕ) → Bounded m b (goOn c image held b)
-  goes-bounded held b =
-      let parts = partsFrom (c .count - held .progress .at) image (c .part) (held .progress .at) in
-      let few = length-take b (drop (held .progress .done) parts) in
-      let left = length-drop (held .progress .done) parts in
+module _ (image : List ℕ) (m : Memory) where
+  goes-bounded : (st : State) (b : ℕ) → Bounded m b (nextPortion image m st b)
+  goes-bounded st b =
+      let n = countOf image (st .options) - st .progress .at in
+      let parts = partsFrom n image (testedPart image m (st .options)) (st .progress .at) in
+      let few = length-take b (drop (st .progress .done) parts) in
+      let left = length-drop (st .progress .done) parts in
       record {
-        inside = inside-take b (inside-drop (held .progress .done) (parts-inside image m (c .part) stand (c .count - held .progress .at) (held .progress .at)));
+        inside =
+            inside-take b (inside-drop (st .progress .done) (parts-inside image m (testedPart image m (st .options)) (parts-stand image m (st .options)) n (st .progress .at)));
         few = omega arith;
         reported = omega arith;
       }
 
-  stage-bounded : (stage : Stage) (held : Held A) (b : ℕ) → Bounded m b (byStage stage c image m held b)
+  stage-bounded : (stage : Stage) (st : State) (b : ℕ) → Bounded m b (byStage stage image m st b)
   unfolding firstStep
-  stage-bounded Fresh held b =
-      pick-with (Bounded m b) (c .loads) (λ _. goes-bounded (begun c (length image) m) b)
-      (λ _. still-bounded m b (begun c (length image) m) (answers (c .answer)))
-  stage-bounded Copying held b = goes-bounded held b
-  stage-bounded Done held b = still-bounded m b held (answers (held .answer))
+  stage-bounded Fresh st b =
+      pick-with (Bounded m b) (isLoaded (answerOf image m (st .options))) (λ _. goes-bounded (startedState image m (st .options)) b)
+      (λ _. stays-bounded m b (startedState image m (st .options)) (reply.Answers (answerOf image m (st .options))))
+  stage-bounded Copying st b = goes-bounded st b
+  stage-bounded Done st b = stays-bounded m b st (reply.Answers (st .answer))
 
-  pub step-bounded : (held : Held A) (b : ℕ) → Bounded m b (stepPlan c image m held b)
+  pub any-step : (st : State) (b : ℕ) → Bounded m b (stepPlan image m st b)
   unfolding stepPlan
-  step-bounded held b = by (askedAll Open (stepTests (held .progress) (length image) m b))
+  any-step st b = by (askedAll Open (stepTests (st .progress) (length image) m b))
     where
-      by : (g : Gate) → Bounded m b (ifOpen g held (byStage (held .progress .stage) c image m held b))
-      by Open = stage-bounded (held .progress .stage) held b
-      by (Shut r) = still-bounded m b held (refused r)
+      by : (g : Gate) → Bounded m b (ifOpen g st (byStage (st .progress .stage) image m st b))
+      by Open = stage-bounded (st .progress .stage) st b
+      by (Shut r) = stays-bounded m b st (reply.Refused r)
+
+-- ---- a step, as the code takes it
+
+module _ (image : List ℕ) (m : Memory) (budget : ℕ) (guest : List ℕ) where
+  -- the next portion, returned as a step
+  pub went-on : (st : State) {portion : Portion} {after : List ℕ} {progress : Progress} {r : Reply}
+      → Loads (portionOf (countOf image (st .options)) image (testedPart image m (st .options)) (st .progress .at) (st .progress .done) budget) guest portion after
+      → progress ≡ movedTo (st .progress) portion → r ≡ replyAfter (portion .all) (st .answer)
+      → Loads (nextPortion image m st budget) guest
+      (record { state = record { progress = progress; answer = st .answer; options = st .options }; copied = portion .copied; reply = r }) after
+  went-on st loads eg er = record { answer = rw (eg, er, loads .answer); memory = loads .memory }
+
+  -- the first step: the whole load's answer, and where the load is
+  module _ (o : Options) {answer : Answer} {loads : Bool} {progress : Progress} (ea : answer ≡ answerOf image m o) (el : loads ≡ isLoaded answer)
+      (eg : progress ≡ begunWith loads (length image) m) where
+    abbrev started : State
+    started = record { progress = progress; answer = answer; options = o }
+
+    loads-is : loads ≡ isLoaded (answerOf image m o)
+    loads-is = el ∙ ap isLoaded ea
+
+    started-is : started ≡ startedState image m o
+    started-is = rw (eg, loads-is, ea)
+
+    pub first-stays : not loads ≡ true → {r : Stepped} → r ≡ unchanged started (reply.Answers answer) → Loads (firstStep image m o budget) guest r guest
+    unfolding pour
+    first-stays refuses {r} er =
+        subst⁻¹ (λ p. Loads p guest r guest) (first-refused image m o budget (sym loads-is ∙ failed refl refuses))
+        (record { answer = er ∙ rw (eg, loads-is, ea); memory = refl })
+
+    pub first-goes : not loads ≡ false → {r : Stepped} {after : List ℕ} → Loads (nextPortion image m started budget) guest r after
+        → Loads (firstStep image m o budget) guest r after
+    first-goes goes {r} {after} on =
+        subst⁻¹ (λ p. Loads p guest r after) (first-loads image m o budget (sym loads-is ∙ held refl goes))
+        (subst (λ (x : State). Loads (nextPortion image m x budget) guest r after) started-is on)
+
+  -- a call after its tests
+  pub call-refused : (st : State) {gate : Gate} {refusal : Refusal} {r : Stepped} → gate ≡ askedAll Open (stepTests (st .progress) (length image) m budget)
+      → gate ≡ Shut refusal → r ≡ unchanged st (reply.Refused refusal) → Loads (stepPlan image m st budget) guest r guest
+  unfolding stepPlan pour
+  call-refused st ask shut er = rw (sym ask ∙ shut) (record { answer = er; memory = refl })
+
+  pub call-opens : (st : State) {gate : Gate} {stage : Stage} {r : Stepped} {after : List ℕ}
+      → gate ≡ askedAll Open (stepTests (st .progress) (length image) m budget) → gate ≡ Open → st .progress .stage ≡ stage
+      → Loads (byStage stage image m st budget) guest r after → Loads (stepPlan image m st budget) guest r after
+  unfolding stepPlan
+  call-opens st {r = r} {after = after} ask opened es loads =
+      rw (sym ask ∙ opened) (subst⁻¹ (λ s. Loads (byStage s image m st budget) guest r after) es loads)
+
+  -- after the answer
+  pub stays-answered : (st : State) {r : Stepped} → r ≡ unchanged st (reply.Answers (st .answer)) → Loads (stays st (reply.Answers (st .answer))) guest r guest
+  unfolding pour
+  stays-answered st er = record { answer = er; memory = refl }

@@ -1,17 +1,17 @@
-// A load in steps: the tests of every call, and how far a load is. What a step copies is the loader's own.
+// The tests of every call of a load in steps, and how far a load is.
 ghost use mathlib.Core.Path.{_≡_};
 ghost use Rattle.answers.specs.Tests.{askedAll};
 ghost use Rattle.answers.specs.declared.Gate.the-variants.{Open};
-ghost use Rattle.guest.specs.Steps.{isFresh, asFirst, stepTests, movedTo, begunWith, freshProgress};
-use crate::Memory;
-use crate::Portion;
+ghost use Rattle.loads.specs.Calls.{isFresh, asFirst, stepTests, movedTo, begunWith, freshProgress};
 use crate::Progress;
 use crate::Stage;
-use crate::lent;
-use crate::maps;
-use crate::room;
 use answers::Gate;
 use answers::Refusal;
+use guest::Memory;
+use guest::Portion;
+use guest::lent;
+use guest::maps;
+use guest::room;
 
 pub fn is_fresh(stage: Stage) -> bool
     ensures { λ r. ⌜ r ≡ isFresh stage ⌝ }
@@ -51,7 +51,7 @@ pub fn ask(progress: Progress, image_len: u64, memory: Memory, budget: u64) -> G
     )
 }
 
-// How far a load is that begins: at its first part where it loads, else at its end.
+// How far a load is that starts: at its first part if it loads, else at its end.
 pub fn begin(loads: bool, image_len: u64, memory: Memory) -> Progress
     ensures { λ r. ⌜ r ≡ begunWith loads «image_len» memory ⌝ }
 {
@@ -84,7 +84,7 @@ pub fn moved(progress: Progress, portion: Portion) -> Progress
     }
 }
 
-// A load that is not begun.
+// A load that is not started.
 pub fn fresh() -> Progress
     ensures { λ r. ⌜ r ≡ freshProgress ⌝ }
 {

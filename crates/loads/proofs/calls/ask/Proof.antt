@@ -1,7 +1,7 @@
--- `steps::ask`: the calls' equations in turn make the row.
+-- `calls::ask`: the calls' equations in turn make the row.
 use borrow.Author.Needs.{needs}
-use Rattle.guest.proofs.steps.ask.Statement.{statement}
-use Rattle.guest.proofs.steps.ask.Tie as tie
+use Rattle.loads.proofs.calls.ask.Statement.{statement}
+use Rattle.loads.proofs.calls.ask.Tie as tie
 
 returns : tie.Need-returns
 returns c = rw (c .require2 .ensures, c .before .is-as-first .ensures, c .before .before .require .ensures, c .before .before .before .ask .ensures)

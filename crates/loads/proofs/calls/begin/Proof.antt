@@ -1,8 +1,8 @@
--- `steps::begin`: by whether it loads.
+-- `calls::begin`: by whether it loads.
 use Rattle.answers.specs.Pick.{pick}
-use Rattle.guest.specs.Steps.{begunWith}
-use Rattle.guest.proofs.steps.begin.Statement.{statement}
-use Rattle.guest.proofs.steps.begin.Tie as tie
+use Rattle.loads.specs.Calls.{begunWith}
+use Rattle.loads.proofs.calls.begin.Statement.{statement}
+use Rattle.loads.proofs.calls.begin.Tie as tie
 
 returns : tie.Need-returns
 unfolding begunWith pick

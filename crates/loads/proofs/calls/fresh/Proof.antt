@@ -1,7 +1,7 @@
--- `steps::fresh`: its memory is the whole of an empty slice.
+-- `calls::fresh`: its memory is the whole of an empty slice.
 use borrow.Author.Needs.{needs}
-use Rattle.guest.proofs.steps.fresh.Statement.{statement}
-use Rattle.guest.proofs.steps.fresh.Tie as tie
+use Rattle.loads.proofs.calls.fresh.Statement.{statement}
+use Rattle.loads.proofs.calls.fresh.Tie as tie
 
 returns : tie.Need-returns
 returns c = rw (c .whole .ensures)

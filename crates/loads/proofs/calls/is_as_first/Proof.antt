@@ -1,10 +1,10 @@
--- `steps::is_as_first`: by the tests, as the definition asks them.
+-- `calls::is_as_first`: by the tests, as the definition asks them.
 use borrow.Author.Needs.{needs}
 use mathlib.Core.Path.{sym, _∙_}
 use borrow.Author.Tests.{eq-eqb, ne-eqb}
-use Rattle.guest.specs.Steps.{asFirst}
-use Rattle.guest.proofs.steps.is_as_first.Statement.{statement}
-use Rattle.guest.proofs.steps.is_as_first.Tie as tie
+use Rattle.loads.specs.Calls.{asFirst}
+use Rattle.loads.proofs.calls.is_as_first.Statement.{statement}
+use Rattle.loads.proofs.calls.is_as_first.Tie as tie
 
 returns : tie.Need-returns
 unfolding asFirst

@@ -1,9 +1,9 @@
--- `steps::is_fresh`: by the stage.
+-- `calls::is_fresh`: by the stage.
 use borrow.Author.Needs.{needs}
 use mathlib.Core.Path.{ap, sym}
-use Rattle.guest.specs.Steps.{isFresh}
-use Rattle.guest.proofs.steps.is_fresh.Statement.{statement}
-use Rattle.guest.proofs.steps.is_fresh.Tie as tie
+use Rattle.loads.specs.Calls.{isFresh}
+use Rattle.loads.proofs.calls.is_fresh.Statement.{statement}
+use Rattle.loads.proofs.calls.is_fresh.Tie as tie
 
 returns : tie.Need-returns
 unfolding isFresh

@@ -1,9 +1,9 @@
--- `steps::moved`: by whether anything is left.
+-- `calls::moved`: by whether anything is left.
 use borrow.Author.Needs.{needs}
 use Rattle.answers.specs.Pick.{pick}
-use Rattle.guest.specs.Steps.{movedTo}
-use Rattle.guest.proofs.steps.moved.Statement.{statement}
-use Rattle.guest.proofs.steps.moved.Tie as tie
+use Rattle.loads.specs.Calls.{movedTo}
+use Rattle.loads.proofs.calls.moved.Statement.{statement}
+use Rattle.loads.proofs.calls.moved.Tie as tie
 
 returns : tie.Need-returns
 unfolding movedTo pick

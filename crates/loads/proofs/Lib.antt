@@ -1,0 +1,10 @@
+pub mod FormatsLaws
+pub mod StepsLaws
+pub mod RefusedUntouched
+pub mod HolesUntouched
+pub mod MoreMemory
+pub mod WholeSlice
+pub mod InPortions
+pub mod ByParts
+pub mod Footprint
+pub mod Outcomes
