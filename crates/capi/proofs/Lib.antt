@@ -1,3 +1,9 @@
 pub mod LoadsLaws
-pub mod Arm64LoadsLaws
+pub mod RefusalsLaws
+pub mod ListsLaws
+pub mod NumbersLaws
+pub mod SavedLaws
+pub mod StatesLaws
+pub mod StateKept
+pub mod ByParts
 pub mod Outcomes

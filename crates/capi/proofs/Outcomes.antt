@@ -1,15 +1,23 @@
 -- Each function permits one outcome.
-use mathlib.Core.Path.{_≡_}
+use mathlib.Core.Path.{_≡_, refl}
 use Rattle.answers.specs.Outcome.{OneOutcome}
 use Rattle.answers.proofs.Outcomes.{meet, first}
-use Rattle.capi.proofs.rekusoyen_elf_load.Kinds as elf-load-kinds
-use Rattle.capi.proofs.rekusoyen_elf_load.Reads as elf-load-reads
-use Rattle.capi.proofs.rekusoyen_elf_note.Kinds as elf-note-kinds
-use Rattle.capi.proofs.rekusoyen_elf_note.Reads as elf-note-reads
-use Rattle.capi.proofs.rekusoyen_bzimage_load.Kinds as bzimage-load-kinds
-use Rattle.capi.proofs.rekusoyen_bzimage_load.Reads as bzimage-load-reads
-use Rattle.capi.proofs.arm64_images.rekusoyen_arm64_load.Kinds as arm64-load-kinds
-use Rattle.capi.proofs.arm64_images.rekusoyen_arm64_load.Reads as arm64-load-reads
+use Rattle.capi.proofs.entries.rekusoyen_raw_load.Kinds as load-kinds
+use Rattle.capi.proofs.entries.rekusoyen_raw_load.Reads as load-reads
+use Rattle.capi.proofs.entries.rekusoyen_raw_plan.Kinds as plan-kinds
+use Rattle.capi.proofs.entries.rekusoyen_raw_plan.Reads as plan-reads
+use Rattle.capi.proofs.entries.rekusoyen_raw_part.Kinds as part-kinds
+use Rattle.capi.proofs.entries.rekusoyen_raw_part.Reads as part-reads
+use Rattle.capi.proofs.entries.rekusoyen_kind.Kinds as kind-kinds
+use Rattle.capi.proofs.entries.rekusoyen_kind.Reads as kind-reads
+use Rattle.capi.proofs.entries.rekusoyen_setup_header.Kinds as setup-header-kinds
+use Rattle.capi.proofs.entries.rekusoyen_setup_header.Reads as setup-header-reads
+use Rattle.capi.proofs.notes.rekusoyen_raw_elf_note.Kinds as elf-note-kinds
+use Rattle.capi.proofs.notes.rekusoyen_raw_elf_note.Reads as elf-note-reads
+use Rattle.capi.proofs.steps.rekusoyen_raw_begin.Kinds as begin-kinds
+use Rattle.capi.proofs.steps.rekusoyen_raw_begin.Reads as begin-reads
+use Rattle.capi.proofs.steps.rekusoyen_raw_step.Kinds as step-kinds
+use Rattle.capi.proofs.steps.rekusoyen_raw_step.Reads as step-reads
 
 -- two tuples, part by part
 pub both : {A B : Type 0} {x y : A} {u v : B} → x ≡ y → u ≡ v → _≡_ {A = A × B} (x, u) (y, v)
@@ -19,15 +27,28 @@ both e f = rw (e, f)
 pub over : {A B : Type 0} {u : A} {x y : B} → x ≡ y → _≡_ {A = A × B} (u, x) (u, y)
 over e = rw e
 
-pub elf-load-one : OneOutcome 4 elf-load-kinds.ps elf-load-kinds.r elf-load-reads.Post
-elf-load-one κs a z z' ws ws' p q = (meet (p .answer) (q .answer), both (meet (p .memory) (q .memory)) (over (over (over (over (over (first (meet (p .told) (q .told)))))))))
+pub load-one : OneOutcome 4 load-kinds.ps load-kinds.r load-reads.Post
+load-one κs a z z' ws ws' p q =
+    (meet (p .answer) (q .answer), both (meet (p .memory) (q .memory)) (over (over (over (over (over (over (first (meet (p .told) (q .told))))))))))
+
+pub plan-one : OneOutcome 3 plan-kinds.ps plan-kinds.r plan-reads.Post
+plan-one κs a z z' ws ws' p q = (meet (p .answer) (q .answer), over (over (over (over (over (over (over (first (meet (p .told) (q .told))))))))))
+
+pub part-one : OneOutcome 3 part-kinds.ps part-kinds.r part-reads.Post
+part-one κs a z z' ws ws' p q = (meet (p .answer) (q .answer), over (over (over (over (over (over (over (first (meet (p .told) (q .told))))))))))
+
+pub kind-one : OneOutcome 1 kind-kinds.ps kind-kinds.r kind-reads.Post
+kind-one κs a z z' ws ws' p q = (meet p q, refl)
+
+pub setup-header-one : OneOutcome 2 setup-header-kinds.ps setup-header-kinds.r setup-header-reads.Post
+setup-header-one κs a z z' ws ws' p q = (meet (p .answer) (q .answer), over (over (first (meet (p .bytes) (q .bytes)))))
 
 pub elf-note-one : OneOutcome 2 elf-note-kinds.ps elf-note-kinds.r elf-note-reads.Post
 elf-note-one κs a z z' ws ws' p q = (meet (p .answer) (q .answer), over (over (over (first (meet (p .told) (q .told))))))
 
-pub bzimage-load-one : OneOutcome 5 bzimage-load-kinds.ps bzimage-load-kinds.r bzimage-load-reads.Post
-bzimage-load-one κs a z z' ws ws' p q =
-    (meet (p .answer) (q .answer), both (meet (p .memory) (q .memory)) (over (over (over (over (over (both (meet (p .told) (q .told)) (first (meet (p .setup) (q .setup))))))))))
+pub begin-one : OneOutcome 1 begin-kinds.ps begin-kinds.r begin-reads.Post
+begin-one κs a z z' ws ws' p q = (meet (p .answer) (q .answer), first (meet (p .state) (q .state)))
 
-pub arm64-load-one : OneOutcome 4 arm64-load-kinds.ps arm64-load-kinds.r arm64-load-reads.Post
-arm64-load-one κs a z z' ws ws' p q = (meet (p .answer) (q .answer), both (meet (p .memory) (q .memory)) (over (over (over (first (meet (p .told) (q .told)))))))
+pub step-one : OneOutcome 5 step-kinds.ps step-kinds.r step-reads.Post
+step-one κs a z z' ws ws' p q =
+    (meet (p .answer) (q .answer), both (meet (p .memory) (q .memory)) (over (over (both (meet (p .state) (q .state)) (over (first (meet (p .told) (q .told))))))))

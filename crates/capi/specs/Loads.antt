@@ -1,79 +1,73 @@
--- What the entry points of a load answer and leave. A list that is lent for values has one size; with another nothing is done.
-use Prim.Native.Nat.{ℕ, _/_, _%_}
+-- What the entry points of a load answer and leave, by how the tests of the call end.
+use Prim.Native.Nat.{ℕ}
 use mathlib.Core.Path.{_≡_}
-use mathlib.Core.Bool.{Bool, _&&_}
-use mathlib.Core.List.{List, []}
+use mathlib.Core.List.{List, [], _∷_}
 use lib.Dec.{eqb}
 use lib.ListN.{length}
 use lib.Seq.{sets}
-use Rattle.answers.specs.Pick.{pick}
-use Rattle.answers.specs.Catalogue.{numberOf}
-use Rattle.answers.specs.declared.Refusal.the-variants.{NoRoom}
-use Rattle.guest.specs.declared.Given.{Given}
-use Rattle.guest.specs.declared.Map.{Map}
-use Rattle.guest.specs.declared.Given.the-variants.{Nothing, At}
+use Rattle.answers.specs.Tests.{askedAll}
+use Rattle.answers.specs.declared.Gate.{Gate}
+use Rattle.answers.specs.declared.Gate.the-variants.{Open}
+use Rattle.answers.specs.declared.Refusal.the-variants.{NoRoom, SliceTooLong}
+use Rattle.guest.specs.Answers.{answerNumber, answerValues}
+use Rattle.guest.specs.Maps.{mapOf}
+use Rattle.guest.specs.Parts.{keptPart}
 use Rattle.guest.specs.Room.{memoryOf}
+use Rattle.guest.specs.Sizes.{allowed}
 use Rattle.guest.specs.Stream.{pour}
-use Rattle.elf.specs.Load.{elfNumber, elfValues, noteNumber, noteValues}
+use Rattle.guest.specs.declared.Map.{Map}
+use Rattle.guest.specs.declared.Memory.{Memory}
+use Rattle.elf.specs.Load.{noteNumber, noteValues}
 use Rattle.elf.specs.Notes.{publicNote}
-use Rattle.elf.specs.Pouring as elf
-use Rattle.bzimage.specs.declared.Answer.{Answer}
-use Rattle.bzimage.specs.declared.Answer.the-variants.{Loaded, Refused}
-use Rattle.bzimage.specs.declared.Outcome.{Outcome}
-use Rattle.bzimage.specs.Answers.{bzImageNumber, bzImageValues}
-use Rattle.bzimage.specs.Plan as bzimage
+use Rattle.bzimage.specs.Header.{headerOf}
 use Rattle.bzimage.specs.SetupHeader.{headerSize}
+use Rattle.loads.specs.Formats.{answerOf, countOf, partOf, planOf}
+use Rattle.loads.specs.declared.Options.{Options}
+use Rattle.loads.specs.declared.formats.Kind.{Kind}
+use Rattle.loads.specs.declared.formats.Kind.the-variants.{Is, Unknown}
+use Rattle.capi.specs.Options.{formatCode, formatTests}
+use Rattle.capi.specs.Parts.{planValues, partValues}
+use Rattle.capi.specs.Values.{numberBehind, leftBehind, numberWhere, leftWhere}
 
--- ---- options
+-- the tests of a call: the size of the list for its results, then the format
+unfoldable pub callGate : ℕ → List ℕ → ℕ → Gate
+callGate size out format = askedAll Open ((eqb (length out) size, NoRoom) ∷ formatTests format)
 
--- an address, given where its bit is 1
-unfoldable pub givenBy : ℕ → ℕ → Given
-givenBy bit address = pick (eqb bit 1) (At (record { 0 = address })) Nothing
+-- a load
+pub record LoadCall (gate : Gate) (image : List ℕ) (o : Options) (map : Map) (guest out : List ℕ) (r : ℕ) (guest-left out-left : List ℕ) : Type 0 where
+  pub answer : r ≡ numberBehind gate (answerNumber (answerOf image (memoryOf guest map) o))
+  pub memory : guest-left ≡ leftBehind gate (pour (planOf image (memoryOf guest map) o .stream) guest) guest
+  pub told : out-left ≡ leftBehind gate (sets out 0 (answerValues (answerOf image (memoryOf guest map) o))) out
 
--- bit 0 of the flags gives the offset, bit 1 the start of high memory
-abbrev pub offsetOf : ℕ → ℕ → Given
-offsetOf flags address = givenBy (flags % 2) address
+-- guest memory of a size, whose map is a list of numbers
+abbrev pub memoryBy : ℕ → List ℕ → Memory
+memoryBy size numbers = record { size = size; map = mapOf numbers }
 
-abbrev pub highmemOf : ℕ → ℕ → Given
-highmemOf flags address = givenBy (flags / 2 % 2) address
+-- a plan
+pub record PlanCall (gate : Gate) (image : List ℕ) (m : Memory) (o : Options) (out : List ℕ) (r : ℕ) (left : List ℕ) : Type 0 where
+  pub answer : r ≡ numberBehind gate (answerNumber (answerOf image m o))
+  pub told : left ≡ leftBehind gate (sets out 0 (planValues (answerOf image m o) (countOf image o))) out
 
--- ---- values
+-- a part by its number, if it lies in the image and has room
+pub record PartCall (gate : Gate) (image : List ℕ) (m : Memory) (o : Options) (i : ℕ) (out : List ℕ) (r : ℕ) (left : List ℕ) : Type 0 where
+  pub answer : r ≡ numberBehind gate 0
+  pub told : left ≡ leftBehind gate (sets out 0 (partValues (keptPart (length image) m (partOf image o i)))) out
 
--- the bytes that a bzImage load leaves in a lent header
-unfoldable pub headerBytes : Answer → List ℕ → List ℕ
-headerBytes (Loaded k) bytes = bytes
-headerBytes (Refused refusal) bytes = []
+-- what an image is: its format's number, 0 if it has none
+unfoldable pub kindNumber : Kind → ℕ
+kindNumber (Is f) = formatCode f
+kindNumber Unknown = 0
 
--- ---- what is told of an answer: its number; its values stand from the first place on, and a refusal leaves the list as it was
+-- the setup header: the size of the buffer, then of the image
+unfoldable pub headerGate : List ℕ → List ℕ → Gate
+headerGate image header = askedAll Open ((eqb (length header) headerSize, NoRoom) ∷ (allowed (length image), SliceTooLong) ∷ [])
 
-pub record Tells (number : ℕ) (values out : List ℕ) (r : ℕ) (left : List ℕ) : Type 0 where
-  pub answer : r ≡ number
-  pub told : left ≡ sets out 0 values
-
--- the same of a bzImage load, and the setup header
-pub record BzImageTells (outcome : Outcome) (out header : List ℕ) (r : ℕ) (out-left header-left : List ℕ) : Type 0 where
-  pub answer : r ≡ bzImageNumber (outcome .answer)
-  pub told : out-left ≡ sets out 0 (bzImageValues (outcome .answer))
-  pub setup : header-left ≡ sets header 0 (headerBytes (outcome .answer) (outcome .«setup_header»))
-
--- ---- the entry points, by whether what is lent has its size
-
--- what is done where the sizes are right, else the refusal's number
-abbrev pub numberWhere : Bool → ℕ → ℕ
-numberWhere sized number = pick sized number (numberOf NoRoom)
-
--- what is left where they are, else what was there
-abbrev pub leftWhere : Bool → List ℕ → List ℕ → List ℕ
-leftWhere sized left was = pick sized left was
-
--- an ELF load
-pub record ElfLoads (image : List ℕ) (offset highmem : Given) (map : Map) (guest out : List ℕ) (r : ℕ) (guest-left out-left : List ℕ) : Type 0 where
-  pub answer : r ≡ numberWhere (eqb (length out) 6) (elfNumber (elf.planOf image (memoryOf guest map) offset highmem .answer))
-  pub memory : guest-left ≡ leftWhere (eqb (length out) 6) (pour (elf.planOf image (memoryOf guest map) offset highmem .stream) guest) guest
-  pub told : out-left ≡ leftWhere (eqb (length out) 6) (sets out 0 (elfValues (elf.planOf image (memoryOf guest map) offset highmem .answer))) out
+pub record HeaderCall (gate : Gate) (image : List ℕ) (load : ℕ) (header : List ℕ) (r : ℕ) (left : List ℕ) : Type 0 where
+  pub answer : r ≡ numberBehind gate 0
+  pub bytes : left ≡ leftBehind gate (sets header 0 (headerOf image load)) header
 
 -- a note walk
-pub record ElfNotes (image : List ℕ) (p-offset p-filesz : ℕ) (out : List ℕ) (r : ℕ) (left : List ℕ) : Type 0 where
+pub record NoteCall (image : List ℕ) (p-offset p-filesz : ℕ) (out : List ℕ) (r : ℕ) (left : List ℕ) : Type 0 where
   pub answer : r ≡ numberWhere (eqb (length out) 5) (noteNumber (publicNote image (record { 0 = p-offset }) p-filesz .answer))
   pub told :
       left
@@ -81,20 +75,3 @@ pub record ElfNotes (image : List ℕ) (p-offset p-filesz : ℕ) (out : List ℕ
       (sets out 0
       (noteValues (publicNote image (record { 0 = p-offset }) p-filesz .answer) (publicNote image (record { 0 = p-offset }) p-filesz .headers)))
       out
-
--- two places for the values, and the setup header's own size
-unfoldable pub bzImageSized : List ℕ → List ℕ → Bool
-bzImageSized out header = eqb (length out) 2 && eqb (length header) headerSize
-
--- a bzImage load
-pub record BzImageLoads (image : List ℕ) (offset highmem : Given) (map : Map) (guest out header : List ℕ) (r : ℕ) (guest-left out-left header-left : List ℕ) : Type 0 where
-  pub answer : r ≡ numberWhere (bzImageSized out header) (bzImageNumber (bzimage.planOf image (memoryOf guest map) offset highmem .answer .answer))
-  pub memory : guest-left ≡ leftWhere (bzImageSized out header) (pour (bzimage.planOf image (memoryOf guest map) offset highmem .stream) guest) guest
-  pub told : out-left ≡ leftWhere (bzImageSized out header) (sets out 0 (bzImageValues (bzimage.planOf image (memoryOf guest map) offset highmem .answer .answer))) out
-  pub setup :
-      header-left
-      ≡ leftWhere (bzImageSized out header)
-      (sets header 0
-      (headerBytes (bzimage.planOf image (memoryOf guest map) offset highmem .answer .answer)
-      (bzimage.planOf image (memoryOf guest map) offset highmem .answer .«setup_header»)))
-      header

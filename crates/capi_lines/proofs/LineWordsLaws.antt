@@ -10,7 +10,7 @@ use Rattle.answers.specs.Catalogue.{numberOf}
 use Rattle.answers.specs.declared.Refusal.the-variants.{NoRoom}
 use Rattle.words.specs.declared.Told.{Told}
 use Rattle.words.specs.Telling.{roomOf, toldOf, wordsNumber, wordsValues, ReadsLine}
-use Rattle.capi.specs.Loads.{Tells}
+use Rattle.capi.specs.Values.{Tells}
 use Rattle.capi_lines.specs.LineWords.{LineWords}
 use Rattle.capi.proofs.LoadsLaws.{picks, passes}
 

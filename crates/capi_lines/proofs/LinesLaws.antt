@@ -50,7 +50,7 @@ use Rattle.loader.specs.declared.Answer.{Answer}
 use Rattle.loader.specs.declared.Answer.the-variants.{Refused}
 use Rattle.loader.specs.Lines as lines
 use Rattle.capi_lines.specs.declared.lines.Header.{Header}
-use Rattle.capi.specs.Loads.{Tells}
+use Rattle.capi.specs.Values.{Tells}
 use Rattle.capi_lines.specs.Lines
 
 -- ---- a text in the bytes

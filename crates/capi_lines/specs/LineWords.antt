@@ -8,7 +8,7 @@ use lib.Seq.{sets}
 use Rattle.answers.specs.Pick.{pick}
 use Rattle.words.specs.Words.{Written}
 use Rattle.words.specs.Telling.{roomOf, toldOf, storedOf, wordsNumber, wordsValues}
-use Rattle.capi.specs.Loads.{numberWhere, leftWhere}
+use Rattle.capi.specs.Values.{numberWhere, leftWhere}
 
 -- the number; the count or the place of the unclosed quote; and the words in the three lists, later places kept
 pub record LineWords (line a b c out : List ℕ) (r : ℕ) (a' b' c' out' : List ℕ) : Type 0 where

@@ -2,7 +2,7 @@
 ghost use mathlib.Core.Path.{_≡_};
 ghost use lib.ListN.{length};
 ghost use Rattle.words.specs.Telling.{wordsNumber, wordsValues};
-ghost use Rattle.capi.specs.Loads.{Tells};
+ghost use Rattle.capi.specs.Values.{Tells};
 ghost use Rattle.capi_lines.specs.LineWords.{LineWords};
 use answers::Refusal;
 use words::Told;

@@ -5,7 +5,7 @@ ghost use lib.ListN.{length, take, drop, replicate};
 ghost use Rattle.answers.specs.Pick.{pick};
 ghost use Rattle.cmdline.specs.Writing.{writtenNumber, writtenCount};
 ghost use Rattle.loader.specs.Lines.{lineNumber};
-ghost use Rattle.capi.specs.Loads.{Tells};
+ghost use Rattle.capi.specs.Values.{Tells};
 ghost use Rattle.capi_lines.specs.Lines.{headerBy, withText, idBy, Told, Makes};
 use answers::Gate;
 use answers::Refusal;

@@ -14,7 +14,7 @@ use Rattle.start_info.specs.declared.Answer.{Answer}
 use Rattle.start_info.specs.Answers.{writtenNumber, checkedNumber, checkedValues}
 use Rattle.start_info.specs.Writing.{Writes}
 use Rattle.start_info.specs.Checking.{checkOf}
-use Rattle.capi.specs.Loads.{Tells}
+use Rattle.capi.specs.Values.{Tells}
 use Rattle.capi_pages.specs.Starts.{StartWrites, StartChecks}
 use Rattle.capi.proofs.LoadsLaws.{picks, passes}
 

@@ -14,7 +14,7 @@ use Rattle.boot_page.specs.declared.Outcome.{Outcome}
 use Rattle.boot_page.specs.Answers.{builtNumber, readNumber, readValues}
 use Rattle.boot_page.specs.Building.{gateOf, pageAfter}
 use Rattle.boot_page.specs.Reading.{readOf, rowsAfter}
-use Rattle.capi.specs.Loads.{numberWhere, leftWhere}
+use Rattle.capi.specs.Values.{numberWhere, leftWhere}
 
 abbrev pub addressesOf : ℕ → ℕ → ℕ → Addresses
 addressesOf command-line ramdisk ramdisk-size = record { «command_line» = command-line; ramdisk = ramdisk; «ramdisk_size» = ramdisk-size }

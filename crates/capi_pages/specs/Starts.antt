@@ -12,7 +12,7 @@ use Rattle.start_info.specs.declared.Start.{Start}
 use Rattle.start_info.specs.Answers.{writtenNumber, checkedNumber, checkedValues}
 use Rattle.start_info.specs.Writing.{planOf}
 use Rattle.start_info.specs.Checking.{checkOf}
-use Rattle.capi.specs.Loads.{numberWhere, leftWhere}
+use Rattle.capi.specs.Values.{numberWhere, leftWhere}
 
 abbrev pub startOf : ℕ → ℕ → ℕ → ℕ → ℕ → ℕ → Start
 startOf block modules ranges flags command-line rsdp =

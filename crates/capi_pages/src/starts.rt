@@ -5,7 +5,7 @@ ghost use Rattle.fields.specs.Rows.{fieldWidth, rowsNumbers};
 ghost use Rattle.guest.specs.Maps.{mapOf};
 ghost use Rattle.start_info.specs.Kinds.{blockWidths, moduleWidths, rangeWidths};
 ghost use Rattle.start_info.specs.Answers.{writtenNumber, checkedNumber, checkedValues};
-ghost use Rattle.capi.specs.Loads.{Tells};
+ghost use Rattle.capi.specs.Values.{Tells};
 ghost use Rattle.capi_pages.specs.Starts.{startOf, StartWrites, StartChecks};
 use answers::Gate;
 use answers::Refusal;

@@ -1,7 +1,7 @@
 -- `options::given`: the test is the definition's own.
 use borrow.Author.Tests.{eq-eqb, ne-eqb}
 use Rattle.answers.specs.Pick.{pick}
-use Rattle.capi.specs.Loads.{givenBy}
+use Rattle.capi.specs.Options.{givenBy}
 use Rattle.capi.proofs.options.given.Statement.{statement}
 use Rattle.capi.proofs.options.given.Tie as tie
 

@@ -1,0 +1,277 @@
+-- `refusals::by_number`: each arm gives the refusal of its number; where no arm does, no refusal has the number.
+use mathlib.Core.Path.{ap, sym}
+use Rattle.answers.specs.Pick.{pick}
+use Rattle.capi.specs.Refusals.{everyRefusal, firstWith, refusalOf}
+use Rattle.capi.proofs.RefusalsLaws.{none-with}
+use Rattle.capi.proofs.refusals.by_number.Statement.{statement}
+use Rattle.capi.proofs.refusals.by_number.Tie as tie
+
+returns : tie.Need-returns
+unfolding refusalOf firstWith pick
+returns c = ap refusalOf (sym (c .match .keys1))
+
+returns-2 : tie.Need-returns-2
+unfolding refusalOf firstWith pick
+returns-2 c = ap refusalOf (sym (c .match .keys2))
+
+returns-3 : tie.Need-returns-3
+unfolding refusalOf firstWith pick
+returns-3 c = ap refusalOf (sym (c .match .keys3))
+
+returns-4 : tie.Need-returns-4
+unfolding refusalOf firstWith pick
+returns-4 c = ap refusalOf (sym (c .match .keys4))
+
+returns-5 : tie.Need-returns-5
+unfolding refusalOf firstWith pick
+returns-5 c = ap refusalOf (sym (c .match .keys5))
+
+returns-6 : tie.Need-returns-6
+unfolding refusalOf firstWith pick
+returns-6 c = ap refusalOf (sym (c .match .keys6))
+
+returns-7 : tie.Need-returns-7
+unfolding refusalOf firstWith pick
+returns-7 c = ap refusalOf (sym (c .match .keys7))
+
+returns-8 : tie.Need-returns-8
+unfolding refusalOf firstWith pick
+returns-8 c = ap refusalOf (sym (c .match .keys8))
+
+returns-9 : tie.Need-returns-9
+unfolding refusalOf firstWith pick
+returns-9 c = ap refusalOf (sym (c .match .keys9))
+
+returns-10 : tie.Need-returns-10
+unfolding refusalOf firstWith pick
+returns-10 c = ap refusalOf (sym (c .match .keys10))
+
+returns-11 : tie.Need-returns-11
+unfolding refusalOf firstWith pick
+returns-11 c = ap refusalOf (sym (c .match .keys11))
+
+returns-12 : tie.Need-returns-12
+unfolding refusalOf firstWith pick
+returns-12 c = ap refusalOf (sym (c .match .keys12))
+
+returns-13 : tie.Need-returns-13
+unfolding refusalOf firstWith pick
+returns-13 c = ap refusalOf (sym (c .match .keys13))
+
+returns-14 : tie.Need-returns-14
+unfolding refusalOf firstWith pick
+returns-14 c = ap refusalOf (sym (c .match .keys14))
+
+returns-15 : tie.Need-returns-15
+unfolding refusalOf firstWith pick
+returns-15 c = ap refusalOf (sym (c .match .keys15))
+
+returns-16 : tie.Need-returns-16
+unfolding refusalOf firstWith pick
+returns-16 c = ap refusalOf (sym (c .match .keys16))
+
+returns-17 : tie.Need-returns-17
+unfolding refusalOf firstWith pick
+returns-17 c = ap refusalOf (sym (c .match .keys17))
+
+returns-18 : tie.Need-returns-18
+unfolding refusalOf firstWith pick
+returns-18 c = ap refusalOf (sym (c .match .keys18))
+
+returns-19 : tie.Need-returns-19
+unfolding refusalOf firstWith pick
+returns-19 c = ap refusalOf (sym (c .match .keys19))
+
+returns-20 : tie.Need-returns-20
+unfolding refusalOf firstWith pick
+returns-20 c = ap refusalOf (sym (c .match .keys20))
+
+returns-21 : tie.Need-returns-21
+unfolding refusalOf firstWith pick
+returns-21 c = ap refusalOf (sym (c .match .keys21))
+
+returns-22 : tie.Need-returns-22
+unfolding refusalOf firstWith pick
+returns-22 c = ap refusalOf (sym (c .match .keys22))
+
+returns-23 : tie.Need-returns-23
+unfolding refusalOf firstWith pick
+returns-23 c = ap refusalOf (sym (c .match .keys23))
+
+returns-24 : tie.Need-returns-24
+unfolding refusalOf firstWith pick
+returns-24 c = ap refusalOf (sym (c .match .keys24))
+
+returns-25 : tie.Need-returns-25
+unfolding refusalOf firstWith pick
+returns-25 c = ap refusalOf (sym (c .match .keys25))
+
+returns-26 : tie.Need-returns-26
+unfolding refusalOf firstWith pick
+returns-26 c = ap refusalOf (sym (c .match .keys26))
+
+returns-27 : tie.Need-returns-27
+unfolding refusalOf firstWith pick
+returns-27 c = ap refusalOf (sym (c .match .keys27))
+
+returns-28 : tie.Need-returns-28
+unfolding refusalOf firstWith pick
+returns-28 c = ap refusalOf (sym (c .match .keys28))
+
+returns-29 : tie.Need-returns-29
+unfolding refusalOf firstWith pick
+returns-29 c = ap refusalOf (sym (c .match .keys29))
+
+returns-30 : tie.Need-returns-30
+unfolding refusalOf firstWith pick
+returns-30 c = ap refusalOf (sym (c .match .keys30))
+
+returns-31 : tie.Need-returns-31
+unfolding refusalOf firstWith pick
+returns-31 c = ap refusalOf (sym (c .match .keys31))
+
+returns-32 : tie.Need-returns-32
+unfolding refusalOf firstWith pick
+returns-32 c = ap refusalOf (sym (c .match .keys32))
+
+returns-33 : tie.Need-returns-33
+unfolding refusalOf firstWith pick
+returns-33 c = ap refusalOf (sym (c .match .keys33))
+
+returns-34 : tie.Need-returns-34
+unfolding refusalOf firstWith pick
+returns-34 c = ap refusalOf (sym (c .match .keys34))
+
+returns-35 : tie.Need-returns-35
+unfolding refusalOf firstWith pick
+returns-35 c = ap refusalOf (sym (c .match .keys35))
+
+returns-36 : tie.Need-returns-36
+unfolding refusalOf firstWith pick
+returns-36 c = ap refusalOf (sym (c .match .keys36))
+
+returns-37 : tie.Need-returns-37
+unfolding refusalOf firstWith pick
+returns-37 c = ap refusalOf (sym (c .match .keys37))
+
+returns-38 : tie.Need-returns-38
+unfolding refusalOf firstWith pick
+returns-38 c = ap refusalOf (sym (c .match .keys38))
+
+returns-39 : tie.Need-returns-39
+unfolding refusalOf firstWith pick
+returns-39 c = ap refusalOf (sym (c .match .keys39))
+
+returns-40 : tie.Need-returns-40
+unfolding refusalOf firstWith pick
+returns-40 c = ap refusalOf (sym (c .match .keys40))
+
+returns-41 : tie.Need-returns-41
+unfolding refusalOf firstWith pick
+returns-41 c = ap refusalOf (sym (c .match .keys41))
+
+returns-42 : tie.Need-returns-42
+unfolding refusalOf firstWith pick
+returns-42 c = ap refusalOf (sym (c .match .keys42))
+
+returns-43 : tie.Need-returns-43
+unfolding refusalOf firstWith pick
+returns-43 c = ap refusalOf (sym (c .match .keys43))
+
+returns-44 : tie.Need-returns-44
+unfolding refusalOf firstWith pick
+returns-44 c = ap refusalOf (sym (c .match .keys44))
+
+returns-45 : tie.Need-returns-45
+unfolding refusalOf firstWith pick
+returns-45 c = ap refusalOf (sym (c .match .keys45))
+
+returns-46 : tie.Need-returns-46
+unfolding refusalOf firstWith pick
+returns-46 c = ap refusalOf (sym (c .match .keys46))
+
+returns-47 : tie.Need-returns-47
+unfolding refusalOf firstWith pick
+returns-47 c = ap refusalOf (sym (c .match .keys47))
+
+returns-48 : tie.Need-returns-48
+unfolding refusalOf firstWith pick
+returns-48 c = ap refusalOf (sym (c .match .keys48))
+
+returns-49 : tie.Need-returns-49
+unfolding refusalOf firstWith pick
+returns-49 c = ap refusalOf (sym (c .match .keys49))
+
+returns-50 : tie.Need-returns-50
+unfolding refusalOf firstWith pick
+returns-50 c = ap refusalOf (sym (c .match .keys50))
+
+returns-51 : tie.Need-returns-51
+unfolding refusalOf firstWith pick
+returns-51 c = ap refusalOf (sym (c .match .keys51))
+
+returns-52 : tie.Need-returns-52
+unfolding refusalOf firstWith pick
+returns-52 c = ap refusalOf (sym (c .match .keys52))
+
+returns-53 : tie.Need-returns-53
+unfolding refusalOf
+returns-53 c = sym (none-with (c .before .args .n) _ everyRefusal (c .match .rest) .1)
+
+pub by-number-spec : {M : Type 1} → statement M
+by-number-spec =
+    tie.close
+    (tie.spec
+    returns
+    returns-2
+    returns-3
+    returns-4
+    returns-5
+    returns-6
+    returns-7
+    returns-8
+    returns-9
+    returns-10
+    returns-11
+    returns-12
+    returns-13
+    returns-14
+    returns-15
+    returns-16
+    returns-17
+    returns-18
+    returns-19
+    returns-20
+    returns-21
+    returns-22
+    returns-23
+    returns-24
+    returns-25
+    returns-26
+    returns-27
+    returns-28
+    returns-29
+    returns-30
+    returns-31
+    returns-32
+    returns-33
+    returns-34
+    returns-35
+    returns-36
+    returns-37
+    returns-38
+    returns-39
+    returns-40
+    returns-41
+    returns-42
+    returns-43
+    returns-44
+    returns-45
+    returns-46
+    returns-47
+    returns-48
+    returns-49
+    returns-50
+    returns-51
+    returns-52
+    returns-53)

@@ -1,3 +1,0 @@
-pub mod PlansLaws
-pub mod PartsTold
-pub mod Outcomes
