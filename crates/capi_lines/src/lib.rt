@@ -174,7 +174,7 @@ pub extern "C" fn rekusoyen_line_add_virtio_mmio_device(
 
 // The text of the line and its closing zero, written to the start of `out`; how many bytes, the zero counted, into the one place of `count`.
 #[no_mangle]
-pub extern "C" fn rekusoyen_line_as_cstring(line: &[u8], out: &mut [u8], count: &mut [u64]) -> u32
+pub extern "C" fn rekusoyen_raw_line_as_cstring(line: &[u8], out: &mut [u8], count: &mut [u64]) -> u32
     ensures { λ r. ⌜ LineWrites (now (line .entry)) (now (out .entry)) (now (count .entry)) r (now (out .exit)) (now (count .exit)) ⌝ }
 {
     let gate = answers::require(Gate::Open, count.len() == 1, Refusal::NoRoom);
@@ -193,7 +193,7 @@ pub extern "C" fn rekusoyen_line_as_cstring(line: &[u8], out: &mut [u8], count: 
 
 // Are two lines equal? 1 or 0 into the one place of `out`.
 #[no_mangle]
-pub extern "C" fn rekusoyen_line_equal(a: &[u8], b: &[u8], out: &mut [u64]) -> u32
+pub extern "C" fn rekusoyen_raw_line_equal(a: &[u8], b: &[u8], out: &mut [u64]) -> u32
     ensures { λ r. ⌜ LinesCompare (now (a .entry)) (now (b .entry)) (now (out .entry)) r (now (out .exit)) ⌝ }
 {
     let gate = answers::require(Gate::Open, out.len() == 1, Refusal::NoRoom);

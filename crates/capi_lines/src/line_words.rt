@@ -28,7 +28,7 @@ fn tell(out: &mut [u64], told: Told) -> u32
 // The words of a line without its zero: where each starts, the place after its last byte, and where its key ends, into three lists. `out` has
 // one place: how many words there are, or the place of a quote that none closes.
 #[no_mangle]
-pub extern "C" fn rekusoyen_line_words(
+pub extern "C" fn rekusoyen_raw_line_words(
     text: &[u8],
     starts: &mut [u64],
     ends: &mut [u64],

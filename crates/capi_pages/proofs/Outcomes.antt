@@ -5,14 +5,14 @@ use Rattle.answers.proofs.Outcomes.{meet, first}
 use Rattle.capi.proofs.Outcomes.{both, over}
 use Rattle.capi_pages.proofs.pages.rekusoyen_page_build.Kinds as page-build-kinds
 use Rattle.capi_pages.proofs.pages.rekusoyen_page_build.Reads as page-build-reads
-use Rattle.capi_pages.proofs.pages.rekusoyen_page_read.Kinds as page-read-kinds
-use Rattle.capi_pages.proofs.pages.rekusoyen_page_read.Reads as page-read-reads
+use Rattle.capi_pages.proofs.pages.rekusoyen_raw_page_read.Kinds as page-read-kinds
+use Rattle.capi_pages.proofs.pages.rekusoyen_raw_page_read.Reads as page-read-reads
 use Rattle.capi_pages.proofs.starts.rekusoyen_start_write.Kinds as start-write-kinds
 use Rattle.capi_pages.proofs.starts.rekusoyen_start_write.Reads as start-write-reads
-use Rattle.capi_pages.proofs.starts.rekusoyen_start_check.Kinds as start-check-kinds
-use Rattle.capi_pages.proofs.starts.rekusoyen_start_check.Reads as start-check-reads
-use Rattle.capi_pages.proofs.starts.rekusoyen_start_block.Kinds as start-block-kinds
-use Rattle.capi_pages.proofs.starts.rekusoyen_start_block.Reads as start-block-reads
+use Rattle.capi_pages.proofs.starts.rekusoyen_raw_start_check.Kinds as start-check-kinds
+use Rattle.capi_pages.proofs.starts.rekusoyen_raw_start_check.Reads as start-check-reads
+use Rattle.capi_pages.proofs.starts.rekusoyen_raw_start_block.Kinds as start-block-kinds
+use Rattle.capi_pages.proofs.starts.rekusoyen_raw_start_block.Reads as start-block-reads
 use Rattle.capi_pages.proofs.starts.rekusoyen_start_modules.Kinds as start-modules-kinds
 use Rattle.capi_pages.proofs.starts.rekusoyen_start_modules.Reads as start-modules-reads
 use Rattle.capi_pages.proofs.starts.rekusoyen_start_ranges.Kinds as start-ranges-kinds

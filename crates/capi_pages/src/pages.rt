@@ -82,7 +82,7 @@ pub extern "C" fn rekusoyen_page_build(
 // Reads a boot page, whoever wrote it. `out` has 4 places: how many rows, the command line's address, the ramdisk's address and size; `rows`
 // has 384, of which those of the rows are written; `header` has the 123 bytes of the setup header.
 #[no_mangle]
-pub extern "C" fn rekusoyen_page_read(
+pub extern "C" fn rekusoyen_raw_page_read(
     page: &[u8],
     out: &mut [u64],
     rows: &mut [u64],

@@ -71,7 +71,7 @@ pub extern "C" fn rekusoyen_start_write(
 
 // Checks the start block at an address, whoever wrote it. `out` has 1 place: 1 where the block is accepted, 0 where it is not.
 #[no_mangle]
-pub extern "C" fn rekusoyen_start_check(
+pub extern "C" fn rekusoyen_raw_start_check(
     guest: &[u8],
     map: &[u64],
     block: u64,
@@ -88,7 +88,7 @@ pub extern "C" fn rekusoyen_start_check(
 
 // Reads the ten numbers of a block at an address, as many as the list takes; a byte past the end of guest memory is read as 0.
 #[no_mangle]
-pub extern "C" fn rekusoyen_start_block(guest: &[u8], block: u64, numbers: &mut [u64])
+pub extern "C" fn rekusoyen_raw_start_block(guest: &[u8], block: u64, numbers: &mut [u64])
     ensures { λ _. ⌜ now (numbers .exit) ≡ rowsNumbers (fieldWidth blockWidths) (length (now (numbers .entry))) (now (guest .entry)) block 0 ⌝ }
 {
     start_info::read_block(numbers, guest, GuestAddress(block));

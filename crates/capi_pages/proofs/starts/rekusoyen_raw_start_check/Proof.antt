@@ -1,9 +1,9 @@
--- `rekusoyen_start_check`: the size is asked first; then the checker's answer is told.
+-- `rekusoyen_raw_start_check`: the size is asked first; then the checker's answer is told.
 use borrow.Author.Needs.{needs}
 use Rattle.guest.specs.Maps.{mapOf}
 use Rattle.capi_pages.proofs.StartsLaws.{check-unsized, check-sized}
-use Rattle.capi_pages.proofs.starts.rekusoyen_start_check.Statement.{statement}
-use Rattle.capi_pages.proofs.starts.rekusoyen_start_check.Tie as tie
+use Rattle.capi_pages.proofs.starts.rekusoyen_raw_start_check.Statement.{statement}
+use Rattle.capi_pages.proofs.starts.rekusoyen_raw_start_check.Tie as tie
 
 returns : tie.Need-returns
 returns c =
@@ -15,8 +15,8 @@ returns-2 c =
     let args = c .before .before .before .before .before .before .before .before .before .before .args in
     check-sized (mapOf (args .map .now)) (args .guest .now) (args .block) (args .out .now) (c .before .before .before .before .before .before .if1 .left) (c .before .before .before .before .before .from-numbers .ensures) (c .before .before .before .before .check .ensures) (c .before .before .tell .ensures)
 
-pub rekusoyen-start-check-spec : {M : Type 1} → statement M
-rekusoyen-start-check-spec =
+pub rekusoyen-raw-start-check-spec : {M : Type 1} → statement M
+rekusoyen-raw-start-check-spec =
     tie.close
     (tie.spec
     (λ c κs. search needs)

@@ -1,11 +1,11 @@
--- `rekusoyen_line_equal`: the tests of what is lent, then whether the lines are equal is told.
+-- `rekusoyen_raw_line_equal`: the tests of what is lent, then whether the lines are equal is told.
 use borrow.Author.Needs.{needs}
 use mathlib.Core.Path.{_≡_}
 use lib.ListN.{length}
 use native.Mathlib.Omega.{arith}
 use Rattle.capi_lines.proofs.LinesLaws.{equal-one, equal-refused, equal-told}
-use Rattle.capi_lines.proofs.rekusoyen_line_equal.Statement.{statement}
-use Rattle.capi_lines.proofs.rekusoyen_line_equal.Tie as tie
+use Rattle.capi_lines.proofs.rekusoyen_raw_line_equal.Statement.{statement}
+use Rattle.capi_lines.proofs.rekusoyen_raw_line_equal.Tie as tie
 
 slice-write-out : tie.Need-slice-write-out
 slice-write-out c =
@@ -24,8 +24,8 @@ returns-2 c =
     equal-told (args .a .now) (args .b .now) (args .out .now) (c .before .before .before .before .before .before .before .before .before .before .require .ensures) (c .before .before .before .before .before .before .before .before .before .read-header .ensures) (c .before .before .before .before .before .before .before .before .read-header2 .ensures) (c .before .before .before .before .before .before .enum-told .given .1)
     (c .before .before .before .before .before .text-at .ensures) (c .before .before .before .before .text-at2 .ensures) (c .before .before .before .text-at3 .ensures) (c .before .before .text-at4 .ensures) (c .before .same-line .ensures) (c .flag .ensures)
 
-pub rekusoyen-line-equal-spec : {M : Type 1} → statement M
-rekusoyen-line-equal-spec =
+pub rekusoyen-raw-line-equal-spec : {M : Type 1} → statement M
+rekusoyen-raw-line-equal-spec =
     tie.close
     (tie.spec
     (λ c κs. search needs)

@@ -1,8 +1,8 @@
--- `rekusoyen_line_words`: the size is asked first; then what reading says is told.
+-- `rekusoyen_raw_line_words`: the size is asked first; then what reading says is told.
 use borrow.Author.Needs.{needs}
 use Rattle.capi_lines.proofs.LineWordsLaws.{words-unsized, words-sized}
-use Rattle.capi_lines.proofs.line_words.rekusoyen_line_words.Statement.{statement}
-use Rattle.capi_lines.proofs.line_words.rekusoyen_line_words.Tie as tie
+use Rattle.capi_lines.proofs.line_words.rekusoyen_raw_line_words.Statement.{statement}
+use Rattle.capi_lines.proofs.line_words.rekusoyen_raw_line_words.Tie as tie
 
 returns : tie.Need-returns
 returns c =
@@ -14,8 +14,8 @@ returns-2 c =
     let args = c .before .before .before .before .before .before .before .before .before .before .before .before .before .before .before .before .before .before .before .before .args in
     words-sized (args .text .now) (args .starts .now) (args .ends .now) (args .splits .now) (args .out .now) (c .before .before .before .before .before .before .before .before .before .before .before .before .before .before .if1 .left) (c .before .before .before .before .before .before .before .before .before .before .read .ensures) (c .before .before .tell .ensures)
 
-pub rekusoyen-line-words-spec : {M : Type 1} → statement M
-rekusoyen-line-words-spec =
+pub rekusoyen-raw-line-words-spec : {M : Type 1} → statement M
+rekusoyen-raw-line-words-spec =
     tie.close
     (tie.spec
     (λ c κs. search needs)

@@ -1,10 +1,10 @@
--- `rekusoyen_page_read`: the sizes are asked first; then what stands in the page is told.
+-- `rekusoyen_raw_page_read`: the sizes are asked first; then what stands in the page is told.
 use borrow.Author.Needs.{needs}
 use lib.ListN.{length}
 use Rattle.answers.proofs.PickLaws.{failed, held}
 use Rattle.capi_pages.proofs.PagesLaws.{out-sized, read-unsized, read-sized}
-use Rattle.capi_pages.proofs.pages.rekusoyen_page_read.Statement.{statement}
-use Rattle.capi_pages.proofs.pages.rekusoyen_page_read.Tie as tie
+use Rattle.capi_pages.proofs.pages.rekusoyen_raw_page_read.Statement.{statement}
+use Rattle.capi_pages.proofs.pages.rekusoyen_raw_page_read.Tie as tie
 
 returns : tie.Need-returns
 returns c =
@@ -21,8 +21,8 @@ returns-2 c =
     let args = c .before .before .before .before .before .before .before .before .before .before .before .before .before .before .before .before .before .args in
     read-sized (args .page .now) (args .out .now) (args .rows .now) (args .header .now) (held (c .before .before .before .before .before .before .before .before .before .before .before .before .are-sized .ensures) (c .before .before .before .before .before .before .before .before .before .before .before .if1 .left)) (c .before .before .before .before .before .before .before .before .before .read .ensures) (c .before .before .before .before .tell .ensures)
 
-pub rekusoyen-page-read-spec : {M : Type 1} → statement M
-rekusoyen-page-read-spec =
+pub rekusoyen-raw-page-read-spec : {M : Type 1} → statement M
+rekusoyen-raw-page-read-spec =
     tie.close
     (tie.spec
     (λ c κs. search needs)
