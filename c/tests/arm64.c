@@ -52,7 +52,8 @@ static const struct arm64_load loads[] = {
 static void check_order(void)
 {
     const uint64_t last = (uint64_t)0 - MIB2;
-    struct load load = {"every defect, repaired in turn", BASE, last + 1, 0, 128, REKUSOYEN_NO_ROOM, AT(58, TOP), {{0}}};
+    struct load load = {
+        "every defect, repaired in turn", BASE, last + 1, 0, 128, REKUSOYEN_NO_ROOM, AT(58, TOP), {{0}}};
     const struct image whole = with_body(MIB2, 0);
     struct image image = whole;
     image.size = ARM64_HEADER_SIZE - 1;

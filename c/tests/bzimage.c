@@ -67,7 +67,8 @@ static void check_order(void)
 }
 
 /* The setup header, of an image and a load address; image bytes past its end are 0. */
-static void check_header(const char *what, const struct image *whole, uint64_t address, size_t header_len, uint32_t answer)
+static void check_header(
+    const char *what, const struct image *whole, uint64_t address, size_t header_len, uint32_t answer)
 {
     struct lent image = lend_bytes(whole->bytes, whole->size), header = lend_filled(header_len);
     struct image expected = {{0}, 0};

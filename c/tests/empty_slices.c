@@ -17,7 +17,8 @@ static void check_loads(const struct format *format)
     CHECK_ANSWER("guest", rekusoyen_load(NULL, 0, NULL, 0, image, size, number, 0, 0, 0, kernel), format->no_room);
     CHECK_ANSWER(
         "image", rekusoyen_load(guest.bytes, GUEST, WHOLE(GUEST), NULL, 0, number, 0, 0, 0, kernel), format->no_image);
-    CHECK_ANSWER("map", rekusoyen_load(guest.bytes, GUEST, NULL, 0, image, size, number, 0, 0, 0, kernel), format->no_room);
+    CHECK_ANSWER(
+        "map", rekusoyen_load(guest.bytes, GUEST, NULL, 0, image, size, number, 0, 0, 0, kernel), format->no_room);
     CHECK_ANSWER(
         "kernel", rekusoyen_raw_load(guest.bytes, GUEST, WHOLE(GUEST), image, size, number, 0, 0, 0, NULL, 0),
         REKUSOYEN_NO_ROOM);
@@ -67,7 +68,8 @@ static void check_starts(void)
 {
     struct lent values = lend_list(1), numbers = lend_list(1);
     const uint64_t no = 0;
-    CHECK_ANSWER("start", rekusoyen_start_write(NULL, 0, NULL, 0, 0, 0, 0, 0, 0, 0, NULL, 0, NULL, 0), REKUSOYEN_BAD_PART);
+    CHECK_ANSWER(
+        "start", rekusoyen_start_write(NULL, 0, NULL, 0, 0, 0, 0, 0, 0, 0, NULL, 0, NULL, 0), REKUSOYEN_BAD_PART);
     CHECK_ANSWER("valid", rekusoyen_raw_start_check(NULL, 0, NULL, 0, 0, NULL, 0), REKUSOYEN_NO_ROOM);
     CHECK_ANSWER("start", rekusoyen_start_check(NULL, 0, NULL, 0, 0, numbers_of(&values)), REKUSOYEN_ACCEPTED);
     CHECK_LEFT("start", &values, &no);
@@ -88,13 +90,16 @@ static void check_pages(void)
         "page", rekusoyen_page_build(NULL, 0, header.bytes, header.size, 0, 0, 0, NULL, 0), REKUSOYEN_BAD_PAGE_SIZE);
     CHECK_ANSWER("header", rekusoyen_page_build(page.bytes, page.size, NULL, 0, 0, 0, 0, NULL, 0), REKUSOYEN_NO_ROOM);
     CHECK_ANSWER(
-        "page", rekusoyen_page_read(NULL, 0, values, rows, rows_len, header.bytes, header.size), REKUSOYEN_BAD_PAGE_SIZE);
+        "page", rekusoyen_page_read(NULL, 0, values, rows, rows_len, header.bytes, header.size),
+        REKUSOYEN_BAD_PAGE_SIZE);
     CHECK_ANSWER(
         "values", rekusoyen_raw_page_read(page.bytes, page.size, NULL, 0, rows, rows_len, header.bytes, header.size),
         REKUSOYEN_NO_ROOM);
     CHECK_ANSWER(
-        "rows", rekusoyen_page_read(page.bytes, page.size, values, NULL, 0, header.bytes, header.size), REKUSOYEN_NO_ROOM);
-    CHECK_ANSWER("header", rekusoyen_page_read(page.bytes, page.size, values, rows, rows_len, NULL, 0), REKUSOYEN_NO_ROOM);
+        "rows", rekusoyen_page_read(page.bytes, page.size, values, NULL, 0, header.bytes, header.size),
+        REKUSOYEN_NO_ROOM);
+    CHECK_ANSWER(
+        "header", rekusoyen_page_read(page.bytes, page.size, values, rows, rows_len, NULL, 0), REKUSOYEN_NO_ROOM);
     CHECK_KEPT("refused", &page);
     CHECK_KEPT("refused", &header);
     CHECK_KEPT("refused", &list);
@@ -112,7 +117,8 @@ static void check_lines_refused(void)
     CHECK_ANSWER("line", rekusoyen_line_try_from(NULL, 0, NULL, 0, 1), REKUSOYEN_NO_ROOM);
     CHECK_ANSWER("line", rekusoyen_line_insert(NULL, 0, NULL, 0, NULL, 0), REKUSOYEN_NO_ROOM);
     CHECK_ANSWER("line", rekusoyen_line_insert_multiple(NULL, 0, NULL, 0, NULL, 0, NULL, 0), REKUSOYEN_NO_ROOM);
-    CHECK_ANSWER("values", rekusoyen_line_insert_multiple(bytes, size, NULL, 0, NULL, 0, NULL, 0), REKUSOYEN_MISSING_VAL);
+    CHECK_ANSWER(
+        "values", rekusoyen_line_insert_multiple(bytes, size, NULL, 0, NULL, 0, NULL, 0), REKUSOYEN_MISSING_VAL);
     CHECK_ANSWER("line", rekusoyen_line_insert_str(NULL, 0, NULL, 0), REKUSOYEN_NO_ROOM);
     CHECK_ANSWER("line", rekusoyen_line_insert_init_args(NULL, 0, NULL, 0), REKUSOYEN_NO_ROOM);
     CHECK_ANSWER("line", rekusoyen_line_add_virtio_mmio_device(NULL, 0, 1, 1, 1, 1, 1), REKUSOYEN_NO_ROOM);
@@ -139,7 +145,8 @@ static void check_lines_accepted(void)
     CHECK_ANSWER("text", rekusoyen_line_try_from(line.bytes, line.size, NULL, 0, 64), REKUSOYEN_ACCEPTED);
     CHECK_ANSWER("key, value", rekusoyen_line_insert(line.bytes, line.size, NULL, 0, NULL, 0), REKUSOYEN_ACCEPTED);
     CHECK_ANSWER(
-        "values", rekusoyen_line_insert_multiple(line.bytes, line.size, NULL, 0, NULL, 0, &no_bytes, 1), REKUSOYEN_ACCEPTED);
+        "values", rekusoyen_line_insert_multiple(line.bytes, line.size, NULL, 0, NULL, 0, &no_bytes, 1),
+        REKUSOYEN_ACCEPTED);
     CHECK_ANSWER("slug", rekusoyen_line_insert_str(line.bytes, line.size, NULL, 0), REKUSOYEN_ACCEPTED);
     CHECK_ANSWER("slug", rekusoyen_line_insert_str(line.bytes, line.size, NULL, 0), REKUSOYEN_ACCEPTED);
     CHECK_ANSWER("slug", rekusoyen_line_insert_init_args(line.bytes, line.size, NULL, 0), REKUSOYEN_ACCEPTED);

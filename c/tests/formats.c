@@ -1,4 +1,4 @@
-/* The format of an image: rekusoyen_kind, numbers that are no format, and images of another format than the load takes. */
+/* The format of an image: rekusoyen_kind, numbers that are no format, and images of another format than is named. */
 #include "loads.h"
 #include "tests.h"
 
@@ -82,7 +82,7 @@ static void check_unknown(void)
     }
 }
 
-/* A load takes the format of its argument, and a load in steps that of its state: an image of another one is refused. */
+/* A load takes the format of its argument, and a load in steps that of its state: other images are refused. */
 static void check_others(void)
 {
     static const uint32_t refusals[] = {

@@ -152,11 +152,12 @@ static void check_behind_output(const char *what, size_t place, const struct lin
     dirty.bytes[place] = 0xff;
     uint8_t out[16] = {0}, guest[16] = {0};
     uint64_t count = 0, same = 0;
-    CHECK_ANSWER(what, rekusoyen_line_as_cstring(dirty.bytes, sizeof dirty.bytes, out, sizeof out, &count), REKUSOYEN_ACCEPTED);
+    const size_t size = sizeof dirty.bytes;
+    CHECK_ANSWER(what, rekusoyen_line_as_cstring(dirty.bytes, size, out, sizeof out, &count), REKUSOYEN_ACCEPTED);
     CHECK(count == 9 && memcmp(out, "ab -- yz", 9) == 0, "%s: written as '%s'", what, (const char *)out);
-    CHECK_ANSWER(what, rekusoyen_line_load(guest, 16, WHOLE(16), 1, dirty.bytes, sizeof dirty.bytes), REKUSOYEN_ACCEPTED);
+    CHECK_ANSWER(what, rekusoyen_line_load(guest, 16, WHOLE(16), 1, dirty.bytes, size), REKUSOYEN_ACCEPTED);
     CHECK(memcmp(guest + 1, "ab -- yz", 9) == 0, "%s: loaded as '%s'", what, (const char *)guest + 1);
-    CHECK_ANSWER(what, rekusoyen_line_equal(dirty.bytes, sizeof dirty.bytes, clean->bytes, sizeof clean->bytes, &same), REKUSOYEN_ACCEPTED);
+    CHECK_ANSWER(what, rekusoyen_line_equal(dirty.bytes, size, clean->bytes, size, &same), REKUSOYEN_ACCEPTED);
     CHECK(same == 1, "%s: a line is equal to one with the same texts", what);
 }
 

@@ -11,8 +11,8 @@ static void check_whole(uint32_t format, const struct load *load, const struct l
 {
     struct lent guest = lend_filled(load->guest_len), kernel = lend_list(REKUSOYEN_KERNEL_NUMBERS);
     uint32_t answer = rekusoyen_load(
-        guest.bytes, guest.size, WHOLE(guest.size), image->bytes, image->size, format, load->flags, load->offset, load->highmem,
-        (void *)kernel.bytes);
+        guest.bytes, guest.size, WHOLE(guest.size), image->bytes, image->size, format, load->flags, load->offset,
+        load->highmem, (void *)kernel.bytes);
     CHECK_ANSWER(load->what, answer, load->answer);
     CHECK_LEFT(load->what, &guest, memory);
     CHECK_LEFT(load->what, &kernel, load->answer == REKUSOYEN_ACCEPTED ? (const void *)&load->kernel : kernel.before);
@@ -23,7 +23,8 @@ static void check_parts(uint32_t format, const struct load *load, const struct l
     struct lent guest = lend_filled(load->guest_len), list = lend_list(REKUSOYEN_PLAN_NUMBERS);
     const size_t size = guest.size;
     uint32_t answer = rekusoyen_plan(
-        size, WHOLE(size), image->bytes, image->size, format, load->flags, load->offset, load->highmem, (void *)list.bytes);
+        size, WHOLE(size), image->bytes, image->size, format, load->flags, load->offset, load->highmem,
+        (void *)list.bytes);
     CHECK_ANSWER(load->what, answer, load->answer);
     struct rekusoyen_plan plan = {load->kernel, 0};
     if (answer == REKUSOYEN_ACCEPTED)
@@ -47,7 +48,8 @@ static void check_parts(uint32_t format, const struct load *load, const struct l
 }
 
 static void check_steps(
-    uint32_t format, const struct load *load, const struct lent *image, const uint8_t *memory, uint64_t total, uint64_t budget)
+    uint32_t format, const struct load *load, const struct lent *image, const uint8_t *memory, uint64_t total,
+    uint64_t budget)
 {
     struct lent guest = lend_filled(load->guest_len), state = lend_list(REKUSOYEN_STATE_NUMBERS);
     uint32_t answer = rekusoyen_begin((void *)state.bytes, format, load->flags, load->offset, load->highmem);
@@ -63,7 +65,8 @@ static void check_steps(
         }
         left -= copied;
         answer = rekusoyen_step(
-            guest.bytes, guest.size, WHOLE(guest.size), image->bytes, image->size, (void *)state.bytes, budget, (void *)list.bytes);
+            guest.bytes, guest.size, WHOLE(guest.size), image->bytes, image->size, (void *)state.bytes, budget,
+            (void *)list.bytes);
         CHECK_ANSWER(load->what, answer, REKUSOYEN_ACCEPTED);
         CHECK_LEFT(load->what, &list, &step);
     }
@@ -105,22 +108,22 @@ void check_lengths(uint32_t format, const struct load *load, const struct image 
                 CHECK_ANSWER(
                     load->what,
                     rekusoyen_raw_load(
-                        guest.bytes, guest.size, WHOLE(guest.size), image->bytes, image->size, formats[i], load->flags, load->offset,
-                        load->highmem, numbers, length),
+                        guest.bytes, guest.size, WHOLE(guest.size), image->bytes, image->size, formats[i], load->flags,
+                        load->offset, load->highmem, numbers, length),
                     REKUSOYEN_NO_ROOM);
             if (length != REKUSOYEN_PLAN_NUMBERS)
                 CHECK_ANSWER(
                     load->what,
                     rekusoyen_raw_plan(
-                        guest.size, WHOLE(guest.size), image->bytes, image->size, formats[i], load->flags, load->offset, load->highmem,
-                        numbers, length),
+                        guest.size, WHOLE(guest.size), image->bytes, image->size, formats[i], load->flags, load->offset,
+                        load->highmem, numbers, length),
                     REKUSOYEN_NO_ROOM);
             if (length != REKUSOYEN_PART_NUMBERS)
                 CHECK_ANSWER(
                     load->what,
                     rekusoyen_raw_part(
-                        guest.size, WHOLE(guest.size), image->bytes, image->size, formats[i], load->flags, load->offset, 0, numbers,
-                        length),
+                        guest.size, WHOLE(guest.size), image->bytes, image->size, formats[i], load->flags, load->offset,
+                        0, numbers, length),
                     REKUSOYEN_NO_ROOM);
             CHECK_KEPT(load->what, &guest);
             CHECK_KEPT(load->what, &list);

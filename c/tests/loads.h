@@ -12,7 +12,7 @@ struct written {
     size_t size;
 };
 
-/* The options of a load and the size of guest memory, the answer, and if it is accepted its result and what it writes, in order. */
+/* The options of a load and the size of guest memory; the answer; if it is accepted, its result and what it writes. */
 struct load {
     const char *what;
     uint32_t flags;
@@ -28,8 +28,8 @@ struct load {
 #define NOTHING {0}, {{0}}
 
 /*
- * Loads an image in every way: at once, by its plan and the parts of it, which are copied by hand, and in steps of some budgets.
- * Checks the answer, the result, guest memory, and that the image stays as it was.
+ * Loads an image in every way: at once, by its plan and the parts of it, which are copied by hand, and in steps of some
+ * budgets. Checks the answer, the result, guest memory, and that the image stays as it was.
  */
 void check_load(uint32_t format, const struct load *load, const struct image *image);
 
@@ -39,7 +39,7 @@ void check_next(uint32_t format, struct load *load, const struct image *image, u
 /* A list for the result that has another length is refused before everything else, also before an unknown format. */
 void check_lengths(uint32_t format, const struct load *load, const struct image *image);
 
-/* A small image of a format, of which SIZE bytes go to ADDRESS in guest memory of GUEST bytes, and what is expected of it. */
+/* A small image of a format, of which SIZE bytes go to ADDRESS in guest memory of GUEST bytes, and what is expected. */
 enum { SIZE = 64, ADDRESS = 4 * (SIZE + 1), GUEST = 20 * (SIZE + 1) };
 
 struct format {

@@ -1,4 +1,4 @@
-/* Images and guest memory of 2^40 bytes and of one more. Of such a mapping the system keeps only the pages that are written. */
+/* Images and guest memory of 2^40 bytes and of one more. The system keeps only the pages that are written. */
 #include "lines.h"
 #include "loads.h"
 #include "tests.h"
@@ -12,7 +12,7 @@
 #define MAPPED (LONGEST + EDGE)
 #define MARK 0x3c
 
-/* A mapping, and what its edges should hold: EDGE bytes from its start on, and EDGE before and after the longest length. */
+/* A mapping, and what its edges should hold: EDGE bytes from its start on, EDGE before and after the longest length. */
 struct mapping {
     uint8_t *bytes;
     uint8_t start[EDGE], end[2 * EDGE];
@@ -113,7 +113,8 @@ static void check_images(struct mapping *mapping)
         put_number(&expected, CODE32_START, 4, 0);
         header = lend_filled(REKUSOYEN_SETUP_HEADER_SIZE);
         CHECK_ANSWER(
-            "a header", rekusoyen_setup_header(mapping->bytes, LONGEST, 0, header.bytes, header.size), REKUSOYEN_ACCEPTED);
+            "a header", rekusoyen_setup_header(mapping->bytes, LONGEST, 0, header.bytes, header.size),
+            REKUSOYEN_ACCEPTED);
         CHECK_LEFT("a header", &header, expected.bytes + SETUP_HEADER);
         check_edges("a header", mapping);
     }
@@ -186,8 +187,8 @@ static void check_guests(struct mapping *mapping)
 }
 
 /*
- * A map that is not valid is refused after a slice that is too long, and before the image or the line is looked at; a list of another
- * length, and an unknown format, are refused first.
+ * A map that is not valid is refused after a slice that is too long, and before the image or the line is looked at; a
+ * list of another length, and an unknown format, are refused first.
  */
 static void check_order(const struct mapping *mapping)
 {

@@ -1,4 +1,4 @@
-/* Guest memory with a map: loads in every format, their plans and steps, and the load of a line, over valid maps and others. */
+/* Guest memory with a map: loads in every format, their plans and steps, and the load of a line. */
 #include "lines.h"
 #include "loads.h"
 #include "tests.h"
@@ -83,7 +83,8 @@ static void load_image(const struct map *map, const struct format *format, size_
 {
     const int accepted = expected == REKUSOYEN_ACCEPTED, is_step = expected != REKUSOYEN_BAD_MAP;
     const uint8_t *const image = format->image.bytes;
-    struct lent guest = lend_filled(GUEST), stepped = lend_filled(GUEST), ranges = lend_numbers(map->numbers, map->count);
+    struct lent guest = lend_filled(GUEST), stepped = lend_filled(GUEST),
+                ranges = lend_numbers(map->numbers, map->count);
     struct lent kernel = lend_list(REKUSOYEN_KERNEL_NUMBERS), planned = lend_list(REKUSOYEN_PLAN_NUMBERS);
     const uint64_t *const numbers = numbers_of(&ranges);
     struct rekusoyen_state state;
@@ -157,11 +158,12 @@ static void check_empty_kernel(void)
         const struct rekusoyen_kernel expected = AT(ADDRESS, ADDRESS);
         struct lent guest = lend_filled(GUEST), kernel = lend_list(REKUSOYEN_KERNEL_NUMBERS);
         uint32_t answer = rekusoyen_load(
-            guest.bytes, guest.size, loads[i].map, loads[i].count, bzimage.bytes, bzimage.size, REKUSOYEN_BZIMAGE, 0, 0, 0,
-            (void *)kernel.bytes);
+            guest.bytes, guest.size, loads[i].map, loads[i].count, bzimage.bytes, bzimage.size, REKUSOYEN_BZIMAGE, 0, 0,
+            0, (void *)kernel.bytes);
         CHECK_ANSWER("a kernel of no bytes", answer, loads[i].answer);
         CHECK_KEPT("a kernel of no bytes", &guest);
-        CHECK_LEFT("a kernel of no bytes", &kernel, answer == REKUSOYEN_ACCEPTED ? (const void *)&expected : kernel.before);
+        CHECK_LEFT(
+            "a kernel of no bytes", &kernel, answer == REKUSOYEN_ACCEPTED ? (const void *)&expected : kernel.before);
     }
 }
 

@@ -74,7 +74,8 @@ static void check_read(const char *what, const struct image *content, uint32_t e
     struct lent page = lend_bytes(content->bytes, content->size), out = lend_list(REKUSOYEN_PAGE_NUMBERS);
     struct lent rows = lend_list(REKUSOYEN_PAGE_READ_ROWS), header = lend_filled(REKUSOYEN_SETUP_HEADER_SIZE);
     uint32_t answer = rekusoyen_page_read(
-        page.bytes, page.size, (void *)out.bytes, numbers_of(&rows), REKUSOYEN_PAGE_READ_ROWS, header.bytes, header.size);
+        page.bytes, page.size, (void *)out.bytes, numbers_of(&rows), REKUSOYEN_PAGE_READ_ROWS, header.bytes,
+        header.size);
     CHECK_ANSWER(what, answer, expected);
     CHECK_KEPT(what, &page);
     if (expected != REKUSOYEN_ACCEPTED) {

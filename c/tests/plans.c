@@ -65,7 +65,8 @@ static void append_notes(struct image *body)
     static const char *const names[] = {"Xen", "Xem", "GNU"};
     const uint64_t notes = below(3);
     for (uint64_t i = 0; i < notes; i++)
-        append_note(body, below(2) == 0 ? PVH_NOTE_TYPE : 1, names[below(3)], 4, "\1\2\3\4\5\6\7\10", (uint32_t)below(9));
+        append_note(
+            body, below(2) == 0 ? PVH_NOTE_TYPE : 1, names[below(3)], 4, "\1\2\3\4\5\6\7\10", (uint32_t)below(9));
 }
 
 /* An image of up to four program headers, most of which fit; a few bytes of the header are changed now and then. */
@@ -80,13 +81,15 @@ static struct image some_elf(void)
         const uint64_t kind = below(8);
         if (kind == 0) {
             append_notes(&body);
-            *header = (struct program_header){NOTES, begins, 0, body.size - begins + (below(4) == 0 ? below(30) : 0), 0};
+            *header = (struct program_header){
+                NOTES, begins, 0, body.size - begins + (below(4) == 0 ? below(30) : 0), 0};
             continue;
         }
         for (uint64_t left = below(20); left > 0; left--)
             append(&body, &(uint8_t){(uint8_t)below(256)}, 1);
         const uint64_t size = body.size - begins;
-        *header = (struct program_header){kind == 1 ? DYNAMIC : LOADABLE, begins, below(BYTES - 8), size, size + below(9)};
+        *header = (struct program_header){
+            kind == 1 ? DYNAMIC : LOADABLE, begins, below(BYTES - 8), size, size + below(9)};
         if (below(40) == 0)
             header->filesz += below(300);
         if (below(40) == 0)
@@ -172,7 +175,8 @@ static uint32_t plan_of(const struct question *q, const struct image *image, str
 {
     memset(plan, 0, sizeof *plan);
     return rekusoyen_plan(
-        BYTES, q->memory.map, q->memory.map_len, image->bytes, image->size, q->format, q->flags, q->offset, q->highmem, plan);
+        BYTES, q->memory.map, q->memory.map_len, image->bytes, image->size, q->format, q->flags, q->offset, q->highmem,
+        plan);
 }
 
 static struct rekusoyen_part part_of(const struct question *q, const struct image *image, uint64_t index)
@@ -181,7 +185,8 @@ static struct rekusoyen_part part_of(const struct question *q, const struct imag
     CHECK_ANSWER(
         "a part",
         rekusoyen_part(
-            BYTES, q->memory.map, q->memory.map_len, image->bytes, image->size, q->format, q->flags, q->offset, index, &part),
+            BYTES, q->memory.map, q->memory.map_len, image->bytes, image->size, q->format, q->flags, q->offset, index,
+            &part),
         REKUSOYEN_ACCEPTED);
     CHECK(part.size != 0 || (part.address == 0 && part.offset == 0), "a part of no bytes has an address or an offset");
     return part;
@@ -193,8 +198,8 @@ static uint64_t copy_parts(struct question *q, uint64_t parts)
     uint64_t copied = 0;
     for (uint64_t i = 0; i < parts; i++) {
         const struct rekusoyen_part part = part_of(q, &q->image, i);
-        const int fits = part.offset <= q->image.size && part.size <= q->image.size - part.offset && part.address <= BYTES &&
-                         part.size <= BYTES - part.address;
+        const int fits = part.offset <= q->image.size && part.size <= q->image.size - part.offset &&
+                         part.address <= BYTES && part.size <= BYTES - part.address;
         CHECK(fits, "a part of %zu bytes passes the image or guest memory", (size_t)part.size);
         if (fits)
             memcpy(q->memory.bytes + part.address, q->image.bytes + part.offset, part.size);
@@ -211,8 +216,8 @@ static int check_plan(uint32_t format)
     struct rekusoyen_kernel kernel = {0, 0, 0, 0, 0, 0};
     struct rekusoyen_plan plan, elsewhere;
     const uint32_t answer = rekusoyen_load(
-        loaded.bytes, BYTES, loaded.map, loaded.map_len, q.image.bytes, q.image.size, format, q.flags, q.offset, q.highmem,
-        &kernel);
+        loaded.bytes, BYTES, loaded.map, loaded.map_len, q.image.bytes, q.image.size, format, q.flags, q.offset,
+        q.highmem, &kernel);
     CHECK_ANSWER("a plan", plan_of(&q, &q.image, &plan), answer);
     CHECK(memcmp(&plan.kernel, &kernel, sizeof kernel) == 0, "a plan returns other values than its load");
     const uint64_t parts = format == REKUSOYEN_ELF ? get_number(&q.image, E_PHNUM, 2) : 1;
@@ -241,12 +246,14 @@ static void check_past_parts(void)
         const struct format format = format_of(number);
         for (size_t i = 0; i <= sizeof past / sizeof past[0]; i++) {
             const uint64_t index = i == 0 ? 0 : past[i - 1];
-            const struct rekusoyen_part first = {.address = ADDRESS, .offset = format.from, .size = SIZE}, none = {0, 0, 0};
+            const struct rekusoyen_part first = {.address = ADDRESS, .offset = format.from, .size = SIZE},
+                                        none = {0, 0, 0};
             struct lent part = lend_list(REKUSOYEN_PART_NUMBERS);
             CHECK_ANSWER(
                 format.name,
                 rekusoyen_part(
-                    GUEST, WHOLE(GUEST), format.image.bytes, format.image.size, number, 0, 0, index, (void *)part.bytes),
+                    GUEST, WHOLE(GUEST), format.image.bytes, format.image.size, number, 0, 0, index,
+                    (void *)part.bytes),
                 REKUSOYEN_ACCEPTED);
             CHECK_LEFT(format.name, &part, index == 0 ? &first : &none);
         }
@@ -265,9 +272,12 @@ static void check_reach(void)
     const size_t last = ELF_HEADER_SIZE + PROGRAM_HEADER_SIZE + 1 + 18;
     CHECK(plan_of(&q, &q.image, &plan) == 0 && plan.kernel.pvh_entry == 0x04030201, "the PVH address");
     q.image.bytes[last + 1] = 99;
-    CHECK(plan_of(&q, &q.image, &plan) == 0 && plan.kernel.pvh_entry == 0x04030201, "a byte after the footprint counts");
+    CHECK(
+        plan_of(&q, &q.image, &plan) == 0 && plan.kernel.pvh_entry == 0x04030201, "a byte after the footprint counts");
     q.image.bytes[last] = 99;
-    CHECK(plan_of(&q, &q.image, &plan) == 0 && plan.kernel.pvh_entry == 0x63030201, "the footprint's last byte is not read");
+    CHECK(
+        plan_of(&q, &q.image, &plan) == 0 && plan.kernel.pvh_entry == 0x63030201,
+        "the footprint's last byte is not read");
 }
 
 /* ---- a line */
@@ -276,17 +286,22 @@ static void check_line(void)
 {
     static uint8_t line[REKUSOYEN_LINE_SIZE];
     CHECK_ANSWER("a line", rekusoyen_line_new(line, sizeof line, 64), REKUSOYEN_ACCEPTED);
-    CHECK_ANSWER("a line", rekusoyen_line_insert_str(line, sizeof line, (const uint8_t *)"quiet", 5), REKUSOYEN_ACCEPTED);
+    CHECK_ANSWER(
+        "a line", rekusoyen_line_insert_str(line, sizeof line, (const uint8_t *)"quiet", 5), REKUSOYEN_ACCEPTED);
     for (int i = 0; i < 300; i++) {
         struct memory memory = some_memory();
-        const uint64_t address = i < 290 ? below(BYTES + 4) : TOP - below(4), line_len = sizeof line - (size_t)(below(30) == 0);
+        const uint64_t address = i < 290 ? below(BYTES + 4) : TOP - below(4),
+                       line_len = sizeof line - (size_t)(below(30) == 0);
         const size_t map_len = memory.map_len - (size_t)(below(30) == 0);
         const uint32_t planned = rekusoyen_line_plan(BYTES, memory.map, map_len, address, line, line_len);
         CHECK_ANSWER(
-            "a line's plan", planned, rekusoyen_line_load(memory.bytes, BYTES, memory.map, map_len, address, line, line_len));
+            "a line's plan", planned,
+            rekusoyen_line_load(memory.bytes, BYTES, memory.map, map_len, address, line, line_len));
     }
     line[0] = 65;
-    CHECK_ANSWER("bytes that hold no line", rekusoyen_line_plan(BYTES, WHOLE(BYTES), 0, line, sizeof line), REKUSOYEN_INVALID_CAPACITY);
+    CHECK_ANSWER(
+        "bytes that hold no line", rekusoyen_line_plan(BYTES, WHOLE(BYTES), 0, line, sizeof line),
+        REKUSOYEN_INVALID_CAPACITY);
 }
 
 /* ---- sizes that no slice has */

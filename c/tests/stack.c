@@ -1,6 +1,6 @@
 /*
- * How much stack a call uses. It runs on a thread of the smallest stack that the system allows (16 KiB, where it allows that), which is filled
- * before; what is no longer as filled was used.
+ * How much stack a call uses. It runs on a thread of the smallest stack that the system allows (16 KiB, where it allows
+ * that), which is filled before; what is no longer as filled was used.
  */
 #include "loads.h"
 #include "tests.h"
@@ -91,7 +91,8 @@ static uint32_t elf_note(void)
 
 static uint32_t page_build(void)
 {
-    return rekusoyen_page_build(page, sizeof page, setup_header, sizeof setup_header, 1, 2, 3, rows, REKUSOYEN_PAGE_READ_ROWS);
+    return rekusoyen_page_build(
+        page, sizeof page, setup_header, sizeof setup_header, 1, 2, 3, rows, REKUSOYEN_PAGE_READ_ROWS);
 }
 
 static uint32_t start_write(void)

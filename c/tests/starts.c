@@ -51,7 +51,8 @@ static void put(uint8_t *bytes, uint64_t at, const uint64_t *numbers, const size
 static const size_t block_widths[] = {4, 4, 4, 4, 8, 8, 8, 8, 4, 4}, module_widths[] = {8, 8, 8, 8}, range_widths[] = {8, 8, 4, 4};
 
 /* What is written reads back equal and is accepted. */
-static void check_back(const char *what, const struct lent *guest, const struct write *w, const struct rekusoyen_start *block)
+static void check_back(
+    const char *what, const struct lent *guest, const struct write *w, const struct rekusoyen_start *block)
 {
     struct lent out = lend_list(1), numbers = lend_list(REKUSOYEN_START_BLOCK_NUMBERS);
     struct lent modules = lend_list(w->modules_len), ranges = lend_list(w->ranges_len);

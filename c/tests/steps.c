@@ -13,7 +13,7 @@
 static const uint64_t ranges[] = {0, 30, 32, 96};
 #define RANGES (sizeof ranges / sizeof ranges[0])
 
-/* An image to load: its parts, in order, of which a later one may be over an earlier, all their bytes, and the result. */
+/* An image to load: its parts, of which a later one may be over an earlier, all their bytes, and the result. */
 struct subject {
     uint32_t format;
     struct image image;
@@ -99,7 +99,9 @@ static void check_step(struct run *run, uint64_t budget)
         expected.kernel = run->subject.kernel;
     CHECK_ANSWER("a step", step(run, budget), REKUSOYEN_ACCEPTED);
     run->copied += copies;
-    CHECK(memcmp(&run->step, &expected, sizeof expected) == 0, "a step of budget %zu returns other values", (size_t)budget);
+    CHECK(
+        memcmp(&run->step, &expected, sizeof expected) == 0, "a step of budget %zu returns other values",
+        (size_t)budget);
     check_guest(run, "a step");
 }
 
@@ -112,8 +114,8 @@ static void check_refused(
     uint64_t numbers[STEP + 1];
     memcpy(numbers, &run->step, sizeof run->step);
     const uint32_t answer = rekusoyen_raw_step(
-        after.guest, guest_len, map, map_len, after.subject.image.bytes, image_len, after.state.numbers, state_len, budget,
-        numbers, step_len);
+        after.guest, guest_len, map, map_len, after.subject.image.bytes, image_len, after.state.numbers, state_len,
+        budget, numbers, step_len);
     CHECK_ANSWER(what, answer, expected);
     CHECK(memcmp(after.guest, run->guest, BYTES) == 0, "%s: guest memory is changed", what);
     CHECK(memcmp(&after.state, &run->state, sizeof after.state) == 0, "%s: the state is changed", what);
@@ -192,9 +194,10 @@ static void check_bad_states(const struct subject *subject)
         size_t place;
         uint64_t number;
     } bad[] = {
-        {"no stage", 0, 3},          {"no stage at all", 0, TOP}, {"no option", 6, 2}, {"no option for high memory", 8, 2},
-        {"an unknown format", 42, 0}, {"no format", 42, 4},        {"no format at all", 42, TOP},
-        {"no answer", 43, 15},       {"no answer at all", 43, TOP}, {"no PVH code", 46, 3},
+        {"no stage", 0, 3},           {"no stage at all", 0, TOP},   {"no option", 6, 2},
+        {"no option for highmem", 8, 2}, {"an unknown format", 42, 0},  {"no format", 42, 4},
+        {"no format at all", 42, TOP}, {"no answer", 43, 15},         {"no answer at all", 43, TOP},
+        {"no PVH code", 46, 3},
     };
     for (size_t made = 0; made < 3; made++) {
         for (size_t i = 0; i < sizeof bad / sizeof bad[0]; i++) {
@@ -221,7 +224,7 @@ static void check_bad_states(const struct subject *subject)
     }
 }
 
-/* An image that is refused is answered in the first step, and copies nothing; one that changes meanwhile keeps to the budget. */
+/* An image that is refused is answered in the first step, with no bytes copied; one that changes keeps to the budget. */
 static void check_answers(const struct subject *subject, const struct subject *other, uint32_t refusal)
 {
     struct run run = begun(subject);
@@ -250,7 +253,8 @@ static void check_begin(void)
             struct lent state = lend_list(length);
             if (length != STATE) {
                 CHECK_ANSWER(
-                    "another length", rekusoyen_raw_begin(numbers_of(&state), length, format, 0, 0, 0), REKUSOYEN_NO_ROOM);
+                    "another length", rekusoyen_raw_begin(numbers_of(&state), length, format, 0, 0, 0),
+                    REKUSOYEN_NO_ROOM);
                 CHECK_KEPT("another length", &state);
             } else {
                 rekusoyen_begin((void *)state.bytes, format, 3, 5, 6);
