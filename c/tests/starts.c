@@ -115,6 +115,7 @@ static void check_bytes(void)
         const uint64_t accepted = !fixed && !far;
         uint32_t answer = rekusoyen_start_check(guest.bytes, guest.size, whole, 2, 0, numbers_of(&out));
         CHECK_ANSWER("one byte", answer, REKUSOYEN_ACCEPTED);
+        CHECK_LEFT("one byte", &guest, guest.bytes);
         CHECK_LEFT("one byte", &out, &accepted);
     }
 }
