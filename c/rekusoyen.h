@@ -10,8 +10,8 @@
  * Results. A function that returns more than an answer writes it to a struct of numbers with names, or to one number.
  * Such a function is `static inline`, over one of the same name with the prefix rekusoyen_raw_, which takes the struct
  * as a list of its numbers with the length of the list: REKUSOYEN_.._NUMBERS, or 1. Before everything else a raw
- * function refuses a list of another length with NO_ROOM; the inline functions pass the right one. The raw functions
- * are for bindings of other languages.
+ * function that returns an answer refuses a list of another length with NO_ROOM; the inline functions pass the right
+ * one. The raw functions are for bindings of other languages.
  *
  * What the caller must ensure. A slice is two arguments, a pointer and the number of its elements. The library trusts
  * them, in a refused call too:
@@ -369,11 +369,8 @@ uint32_t rekusoyen_kind(const uint8_t *image, size_t image_len);
  * refused: guest and kernel as they were. Nothing is copied before the whole load is accepted.
  */
 uint32_t rekusoyen_raw_load(
-    uint8_t *guest, size_t guest_len,
-    const uint64_t *map, size_t map_len,
-    const uint8_t *image, size_t image_len,
-    uint32_t format, uint32_t flags, uint64_t offset, uint64_t highmem,
-    uint64_t *kernel, size_t kernel_len);
+    uint8_t *guest, size_t guest_len, const uint64_t *map, size_t map_len, const uint8_t *image, size_t image_len,
+    uint32_t format, uint32_t flags, uint64_t offset, uint64_t highmem, uint64_t *kernel, size_t kernel_len);
 static inline uint32_t rekusoyen_load(
     uint8_t *guest, size_t guest_len,
     const uint64_t *map, size_t map_len,
@@ -408,11 +405,8 @@ struct rekusoyen_plan {
     uint64_t parts;                 /* the number of its parts */
 };
 uint32_t rekusoyen_raw_plan(
-    uint64_t memory_size,
-    const uint64_t *map, size_t map_len,
-    const uint8_t *image, size_t image_len,
-    uint32_t format, uint32_t flags, uint64_t offset, uint64_t highmem,
-    uint64_t *plan, size_t plan_len);
+    uint64_t memory_size, const uint64_t *map, size_t map_len, const uint8_t *image, size_t image_len, uint32_t format,
+    uint32_t flags, uint64_t offset, uint64_t highmem, uint64_t *plan, size_t plan_len);
 static inline uint32_t rekusoyen_plan(
     uint64_t memory_size,
     const uint64_t *map, size_t map_len,
@@ -442,11 +436,8 @@ struct rekusoyen_part {
     uint64_t size;
 };
 uint32_t rekusoyen_raw_part(
-    uint64_t memory_size,
-    const uint64_t *map, size_t map_len,
-    const uint8_t *image, size_t image_len,
-    uint32_t format, uint32_t flags, uint64_t offset, uint64_t index,
-    uint64_t *part, size_t part_len);
+    uint64_t memory_size, const uint64_t *map, size_t map_len, const uint8_t *image, size_t image_len, uint32_t format,
+    uint32_t flags, uint64_t offset, uint64_t index, uint64_t *part, size_t part_len);
 static inline uint32_t rekusoyen_part(
     uint64_t memory_size,
     const uint64_t *map, size_t map_len,
@@ -474,8 +465,7 @@ struct rekusoyen_state {
     uint64_t numbers[REKUSOYEN_STATE_NUMBERS];
 };
 uint32_t rekusoyen_raw_begin(
-    uint64_t *state, size_t state_len,
-    uint32_t format, uint32_t flags, uint64_t offset, uint64_t highmem);
+    uint64_t *state, size_t state_len, uint32_t format, uint32_t flags, uint64_t offset, uint64_t highmem);
 static inline uint32_t rekusoyen_begin(
     struct rekusoyen_state *state, uint32_t format, uint32_t flags, uint64_t offset, uint64_t highmem)
 {
@@ -516,12 +506,8 @@ struct rekusoyen_step {
     struct rekusoyen_kernel kernel; /* what the load returns; all 0 if it is not accepted or has not answered */
 };
 uint32_t rekusoyen_raw_step(
-    uint8_t *guest, size_t guest_len,
-    const uint64_t *map, size_t map_len,
-    const uint8_t *image, size_t image_len,
-    uint64_t *state, size_t state_len,
-    uint64_t budget,
-    uint64_t *step, size_t step_len);
+    uint8_t *guest, size_t guest_len, const uint64_t *map, size_t map_len, const uint8_t *image, size_t image_len,
+    uint64_t *state, size_t state_len, uint64_t budget, uint64_t *step, size_t step_len);
 static inline uint32_t rekusoyen_step(
     uint8_t *guest, size_t guest_len,
     const uint64_t *map, size_t map_len,
@@ -562,9 +548,7 @@ struct rekusoyen_note {
     uint64_t pvh_size;
 };
 uint32_t rekusoyen_raw_elf_note(
-    const uint8_t *image, size_t image_len,
-    uint64_t p_offset, uint64_t p_filesz,
-    uint64_t *note, size_t note_len);
+    const uint8_t *image, size_t image_len, uint64_t p_offset, uint64_t p_filesz, uint64_t *note, size_t note_len);
 static inline uint32_t rekusoyen_elf_note(
     const uint8_t *image, size_t image_len,
     uint64_t p_offset, uint64_t p_filesz,
@@ -660,9 +644,7 @@ struct rekusoyen_page {
     uint64_t ramdisk_size; /* its size */
 };
 uint32_t rekusoyen_raw_page_read(
-    const uint8_t *page, size_t page_len,
-    uint64_t *values, size_t values_len,
-    uint64_t *rows, size_t rows_len,
+    const uint8_t *page, size_t page_len, uint64_t *values, size_t values_len, uint64_t *rows, size_t rows_len,
     uint8_t *header, size_t header_len);
 static inline uint32_t rekusoyen_page_read(
     const uint8_t *page, size_t page_len,
@@ -735,9 +717,7 @@ uint32_t rekusoyen_start_write(
  * Leaves, refused: valid as it was.
  */
 uint32_t rekusoyen_raw_start_check(
-    const uint8_t *guest, size_t guest_len,
-    const uint64_t *map, size_t map_len,
-    uint64_t block,
+    const uint8_t *guest, size_t guest_len, const uint64_t *map, size_t map_len, uint64_t block,
     uint64_t *valid, size_t valid_len);
 static inline uint32_t rekusoyen_start_check(
     const uint8_t *guest, size_t guest_len,
@@ -955,9 +935,7 @@ uint32_t rekusoyen_line_add_virtio_mmio_device(
  * the count.
  */
 uint32_t rekusoyen_raw_line_as_cstring(
-    const uint8_t *line, size_t line_len,
-    uint8_t *out, size_t out_len,
-    uint64_t *count, size_t count_len);
+    const uint8_t *line, size_t line_len, uint8_t *out, size_t out_len, uint64_t *count, size_t count_len);
 static inline uint32_t rekusoyen_line_as_cstring(
     const uint8_t *line, size_t line_len,
     uint8_t *out, size_t out_len,
@@ -982,9 +960,7 @@ static inline uint32_t rekusoyen_line_as_cstring(
  * Leaves, accepted: in equal the result.
  */
 uint32_t rekusoyen_raw_line_equal(
-    const uint8_t *a, size_t a_len,
-    const uint8_t *b, size_t b_len,
-    uint64_t *equal, size_t equal_len);
+    const uint8_t *a, size_t a_len, const uint8_t *b, size_t b_len, uint64_t *equal, size_t equal_len);
 static inline uint32_t rekusoyen_line_equal(
     const uint8_t *a, size_t a_len,
     const uint8_t *b, size_t b_len,
@@ -1061,11 +1037,8 @@ uint32_t rekusoyen_line_plan(
  * unclosed quote.
  */
 uint32_t rekusoyen_raw_line_words(
-    const uint8_t *text, size_t text_len,
-    uint64_t *starts, size_t starts_len,
-    uint64_t *ends, size_t ends_len,
-    uint64_t *splits, size_t splits_len,
-    uint64_t *count, size_t count_len);
+    const uint8_t *text, size_t text_len, uint64_t *starts, size_t starts_len, uint64_t *ends, size_t ends_len,
+    uint64_t *splits, size_t splits_len, uint64_t *count, size_t count_len);
 static inline uint32_t rekusoyen_line_words(
     const uint8_t *text, size_t text_len,
     uint64_t *starts, size_t starts_len,
