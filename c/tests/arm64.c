@@ -53,13 +53,12 @@ static void check_order(void)
 {
     const uint64_t last = (uint64_t)0 - MIB2;
     struct load load = {
-        "every defect, repaired in turn", BASE, last + 1, 0, 128, REKUSOYEN_NO_ROOM, AT(58, TOP), {{0}}};
+        "every defect, repaired in turn", BASE, last + 1, 0, 128, REKUSOYEN_ACCEPTED, AT(58, TOP), {{0}}};
     const struct image whole = with_body(MIB2, 0);
     struct image image = whole;
     image.size = ARM64_HEADER_SIZE - 1;
     put_number(&image, FLAGS, 8, TOP);
     put_number(&image, MAGIC, 1, 'a');
-    check_lengths(REKUSOYEN_ARM64, &load, &image);
     check_next(REKUSOYEN_ARM64, &load, &image, REKUSOYEN_SHORT_IMAGE);
     image.size = whole.size;
     check_next(REKUSOYEN_ARM64, &load, &image, REKUSOYEN_BAD_IMAGE_MAGIC);

@@ -50,6 +50,30 @@ static void check_kinds(void)
     }
 }
 
+/* A list for the result that has another length is refused first, in every format and in none. */
+static void check_lengths(void)
+{
+    const uint64_t bad[] = {0, 0};
+    for (uint32_t format = REKUSOYEN_UNKNOWN; format <= REKUSOYEN_ARM64 + 1; format++)
+        for (size_t length = 0; length <= REKUSOYEN_STATE_NUMBERS + 1; length++) {
+            struct lent guest = lend_filled(32), list = lend_list(length);
+            uint64_t *const numbers = numbers_of(&list);
+            uint32_t answers[4] = {REKUSOYEN_NO_ROOM, REKUSOYEN_NO_ROOM, REKUSOYEN_NO_ROOM, REKUSOYEN_NO_ROOM};
+            if (length != REKUSOYEN_KERNEL_NUMBERS)
+                answers[0] = rekusoyen_raw_load(guest.bytes, 32, bad, 2, NULL, 0, format, 0, 0, 0, numbers, length);
+            if (length != REKUSOYEN_PLAN_NUMBERS)
+                answers[1] = rekusoyen_raw_plan(TOP, bad, 2, NULL, 0, format, 0, 0, 0, numbers, length);
+            if (length != REKUSOYEN_PART_NUMBERS)
+                answers[2] = rekusoyen_raw_part(TOP, bad, 2, NULL, 0, format, 0, 0, 0, numbers, length);
+            if (length != REKUSOYEN_STATE_NUMBERS)
+                answers[3] = rekusoyen_raw_begin(numbers, length, format, 0, 0, 0);
+            for (size_t i = 0; i < 4; i++)
+                CHECK_ANSWER("a list of another length", answers[i], REKUSOYEN_NO_ROOM);
+            CHECK_KEPT("a list of another length", &guest);
+            CHECK_KEPT("a list of another length", &list);
+        }
+}
+
 /* An unknown format is refused before a slice that is too long and a map that is not valid. */
 static void check_unknown(void)
 {
@@ -103,6 +127,7 @@ static void check_others(void)
 void test_formats(void)
 {
     check_kinds();
+    check_lengths();
     check_unknown();
     check_others();
 }

@@ -97,39 +97,6 @@ void check_next(uint32_t format, struct load *load, const struct image *image, u
     check_load(format, load, image);
 }
 
-void check_lengths(uint32_t format, const struct load *load, const struct image *image)
-{
-    const uint32_t formats[] = {format, REKUSOYEN_UNKNOWN};
-    for (size_t i = 0; i < 2; i++)
-        for (size_t length = 0; length <= REKUSOYEN_PLAN_NUMBERS + 1; length++) {
-            struct lent guest = lend_filled(load->guest_len), list = lend_list(length);
-            uint64_t *const numbers = numbers_of(&list);
-            if (length != REKUSOYEN_KERNEL_NUMBERS)
-                CHECK_ANSWER(
-                    load->what,
-                    rekusoyen_raw_load(
-                        guest.bytes, guest.size, WHOLE(guest.size), image->bytes, image->size, formats[i], load->flags,
-                        load->offset, load->highmem, numbers, length),
-                    REKUSOYEN_NO_ROOM);
-            if (length != REKUSOYEN_PLAN_NUMBERS)
-                CHECK_ANSWER(
-                    load->what,
-                    rekusoyen_raw_plan(
-                        guest.size, WHOLE(guest.size), image->bytes, image->size, formats[i], load->flags, load->offset,
-                        load->highmem, numbers, length),
-                    REKUSOYEN_NO_ROOM);
-            if (length != REKUSOYEN_PART_NUMBERS)
-                CHECK_ANSWER(
-                    load->what,
-                    rekusoyen_raw_part(
-                        guest.size, WHOLE(guest.size), image->bytes, image->size, formats[i], load->flags, load->offset,
-                        0, numbers, length),
-                    REKUSOYEN_NO_ROOM);
-            CHECK_KEPT(load->what, &guest);
-            CHECK_KEPT(load->what, &list);
-        }
-}
-
 struct format format_of(uint32_t number)
 {
     const struct program_header segment = {LOADABLE, 0, ADDRESS, SIZE, SIZE + 9};

@@ -36,9 +36,6 @@ void check_load(uint32_t format, const struct load *load, const struct image *im
 /* Gives the load another answer, and checks it: for every defect at once, of which each is repaired in turn. */
 void check_next(uint32_t format, struct load *load, const struct image *image, uint32_t answer);
 
-/* A list for the result that has another length is refused before everything else, also before an unknown format. */
-void check_lengths(uint32_t format, const struct load *load, const struct image *image);
-
 /* A small image of a format, of which SIZE bytes go to ADDRESS in guest memory of GUEST bytes, and what is expected. */
 enum { SIZE = 64, ADDRESS = 4 * (SIZE + 1), GUEST = 20 * (SIZE + 1) };
 

@@ -186,10 +186,7 @@ static void check_guests(struct mapping *mapping)
     load_line_into(mapping, LONGEST + 1, &no_line, REKUSOYEN_INVALID_CAPACITY);
 }
 
-/*
- * A map that is not valid is refused after a slice that is too long, and before the image or the line is looked at; a
- * list of another length, and an unknown format, are refused first.
- */
+/* A map that is not valid is refused after an unknown format and a long slice, and before the image or the line. */
 static void check_order(const struct mapping *mapping)
 {
     const struct text none = T(""), two = T("ab");
@@ -208,12 +205,8 @@ static void check_order(const struct mapping *mapping)
             uint32_t answer = rekusoyen_raw_load(
                 mapping->bytes, length, past, 2, NULL, 0, format, 0, 0, 0, numbers, REKUSOYEN_KERNEL_NUMBERS);
             CHECK_ANSWER("load", answer, expected);
-            answer = rekusoyen_raw_load(mapping->bytes, length, past, 2, NULL, 0, format, 0, 0, 0, numbers, 1);
-            CHECK_ANSWER("load", answer, REKUSOYEN_NO_ROOM);
             answer = rekusoyen_raw_plan(length, past, 2, NULL, 0, format, 0, 0, 0, numbers, REKUSOYEN_PLAN_NUMBERS);
             CHECK_ANSWER("plan", answer, expected);
-            answer = rekusoyen_raw_plan(length, past, 2, NULL, 0, format, 0, 0, 0, numbers, 1);
-            CHECK_ANSWER("plan", answer, REKUSOYEN_NO_ROOM);
         }
         CHECK_ANSWER("note", rekusoyen_raw_elf_note(mapping->bytes, length, 0, 0, numbers, 1), REKUSOYEN_NO_ROOM);
         CHECK_ANSWER(

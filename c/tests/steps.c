@@ -245,29 +245,10 @@ static void check_answers(const struct subject *subject, const struct subject *o
     CHECK(changed.step.copied <= 3, "a changed image copies %zu bytes", (size_t)changed.step.copied);
 }
 
-/* Begin checks the length of the state before the format. */
-static void check_begin(void)
-{
-    for (uint32_t format = REKUSOYEN_UNKNOWN; format <= REKUSOYEN_ARM64 + 1; format++)
-        for (size_t length = STATE - 1; length <= STATE + 1; length++) {
-            struct lent state = lend_list(length);
-            if (length != STATE) {
-                CHECK_ANSWER(
-                    "another length", rekusoyen_raw_begin(numbers_of(&state), length, format, 0, 0, 0),
-                    REKUSOYEN_NO_ROOM);
-                CHECK_KEPT("another length", &state);
-            } else {
-                rekusoyen_begin((void *)state.bytes, format, 3, 5, 6);
-                CHECK_LEFT("begin", &state, state.bytes);
-            }
-        }
-}
-
 void test_steps(void)
 {
     static const uint32_t refusals[] = {
         0, REKUSOYEN_INVALID_ELF_MAGIC_NUMBER, REKUSOYEN_INVALID_BZ_IMAGE, REKUSOYEN_BAD_IMAGE_MAGIC};
-    check_begin();
     for (EACH_FORMAT(format)) {
         const struct subject subject = subject_of(format);
         const struct subject other = subject_of(format == REKUSOYEN_ELF ? REKUSOYEN_BZIMAGE : REKUSOYEN_ELF);
