@@ -319,7 +319,7 @@ struct rekusoyen_kernel {
  *              READ_BZ_IMAGE_COMPRESSED_KERNEL  the kernel has a byte or more, and has no room at the load address
  *   parts      one: the kernel, which goes to the load address
  *   footprint  1F1 hex to 26B hex, the setup header
- * The setup header that a boot page takes is asked for apart: rekusoyen_setup_header.
+ * rekusoyen_setup_header gives the setup header that a boot page needs.
  *
  * REKUSOYEN_ARM64. The file, not compressed, goes whole, with its header, to base + text offset. The header has 64
  * bytes: the text offset at 8, the image size at 16 and the flags at 24, 8 bytes each, and the magic number at 56, 4
@@ -327,7 +327,7 @@ struct rekusoyen_kernel {
  *   offset     is the base, a multiple of 2 MiB; the base is 0 if it is not given
  *   highmem    is not looked at
  *   load       base + text offset
- *   end        the load address + the image size, where the memory ends that the kernel asks for. It may be past guest
+ *   end        the load address + the image size, where the memory ends that the kernel needs. It may be past guest
  *              memory, and below the file's last byte
  *   refusals   SHORT_IMAGE        image_len is below 64
  *              BAD_IMAGE_MAGIC    the magic number is not 644D5241 hex
@@ -581,9 +581,9 @@ uint32_t rekusoyen_setup_header(
 /* ---- the boot page */
 
 /*
- * The boot page is the zero page of the Linux boot protocol: what a bzImage is told when it starts. A row of its memory
- * map is three numbers: the address and the size of a range of guest memory, of 8 bytes each, and its type, of 4 bytes.
- * Rows are given as one list of numbers, three for each row.
+ * The boot page is the zero page of the Linux boot protocol: what a bzImage is given when it starts. A row of its
+ * memory map is three numbers: the address and the size of a range of guest memory, of 8 bytes each, and its type, of 4
+ * bytes. Rows are given as one list of numbers, three for each row.
  */
 #define REKUSOYEN_PAGE_SIZE 4096
 #define REKUSOYEN_PAGE_ROWS 128
@@ -755,23 +755,22 @@ void rekusoyen_start_ranges(
 /* ---- lines */
 
 /*
- * A kernel command line lives in REKUSOYEN_LINE_SIZE bytes that the caller owns and lends to each call: copied, moved
- * and dropped as any bytes. They hold three numbers of 8 bytes, least byte first (the length of the boot text, the
- * length of the init text, the capacity), then the boot text in REKUSOYEN_LINE_LIMIT bytes and the init text in as
- * many.
+ * A kernel command line is stored in REKUSOYEN_LINE_SIZE bytes of the caller, which may copy, move and drop them. They
+ * hold three numbers of 8 bytes, least byte first (the length of the boot text, the length of the init text, the
+ * capacity), then the boot text in REKUSOYEN_LINE_LIMIT bytes and the init text in as many.
  *
- * The counted size of a line is the length of its boot text + 1, and where there is init text 4 + its length more: what
+ * The counted size of a line is the length of its boot text + 1, and if there is init text 4 + its length more: what
  * the written line takes with its zero.
  *
- * Bytes hold a line where the capacity is 1 to REKUSOYEN_LINE_LIMIT and the counted size is at most the capacity; the
- * texts may have any bytes. Every call but a making tests this, whoever wrote the bytes; what an accepted call leaves
- * holds a line.
+ * Bytes hold a line if the capacity is 1 to REKUSOYEN_LINE_LIMIT and the counted size is at most the capacity; the
+ * texts may have any bytes. Every call but rekusoyen_line_new and rekusoyen_line_try_from checks this, no matter who
+ * wrote the bytes; what an accepted call leaves holds a line.
  *
- * A call works on the bytes in place. What stands behind a text in its part has no say: it is not looked at, and stays
- * as it is until a longer text covers it. A making leaves zeros there, and no call changes them to anything but text.
+ * A call works on the bytes in place. Bytes after the end of a text are not looked at, and stay as they are until a
+ * longer text covers them. In a new line they are zeros, and no call changes them to anything but text.
  *
- * Every refused call leaves everything that it was lent as it was. An accepted call that is lent a line to change
- * changes the text that its comment names, from its first new byte on, and that text's length.
+ * Every refused call leaves all its arguments as they were. An accepted call that changes a line changes the text that
+ * its comment names, from its first new byte on, and the length of that text.
  */
 #define REKUSOYEN_LINE_LIMIT 16384
 #define REKUSOYEN_LINE_SIZE (24 + 2 * REKUSOYEN_LINE_LIMIT)
@@ -812,11 +811,11 @@ uint32_t rekusoyen_line_try_from(
     uint64_t capacity);
 
 /*
- * Puts key=value after the boot text, with a space between where there is boot text.
+ * Puts key=value after the boot text, with a space between if there is boot text.
  *
  *   line   a line
  *   key    may be empty
- *   value  may be empty; it is quoted where it has two bytes or more and a double quote at each end
+ *   value  may be empty; it is quoted if it has two bytes or more and a double quote at each end
  *
  * Refusals:
  *   NO_ROOM           line_len is not REKUSOYEN_LINE_SIZE
@@ -837,7 +836,7 @@ uint32_t rekusoyen_line_insert(
     const uint8_t *value, size_t value_len);
 
 /*
- * Puts key=value,value.. after the boot text, with a space between where there is boot text.
+ * Puts key=value,value.. after the boot text, with a space between if there is boot text.
  *
  *   line    a line
  *   key     may be empty
@@ -863,7 +862,7 @@ uint32_t rekusoyen_line_insert_multiple(
     const size_t *ends, size_t ends_len);
 
 /*
- * Puts a slug after the boot text, with a space between where there is boot text. The slug is taken without the blanks
+ * Puts a slug after the boot text, with a space between if there is boot text. The slug is taken without the blanks
  * (bytes 9 to 13 and 32) at its ends. An empty one is accepted: after boot text it adds the one space.
  *
  *   line  a line
@@ -880,12 +879,12 @@ uint32_t rekusoyen_line_insert_multiple(
 uint32_t rekusoyen_line_insert_str(uint8_t *line, size_t line_len, const uint8_t *slug, size_t slug_len);
 
 /*
- * The same for the init text: the slug goes after it, with a space between where there is init text.
+ * The same for the init text: the slug goes after it, with a space between if there is init text.
  *
  *   line  a line
  *   slug  any text
  *
- * Refusals: those of rekusoyen_line_insert_str, in its order. Where there is no init text, an empty slug too asks for 4
+ * Refusals: those of rekusoyen_line_insert_str, in its order. If there is no init text, an empty slug too needs 4
  * bytes of room, as the separator takes.
  *
  * Leaves, accepted: in line the init text, a space if it was not empty, and the slug without the blanks at its ends.
@@ -893,16 +892,16 @@ uint32_t rekusoyen_line_insert_str(uint8_t *line, size_t line_len, const uint8_t
 uint32_t rekusoyen_line_insert_init_args(uint8_t *line, size_t line_len, const uint8_t *slug, size_t slug_len);
 
 /*
- * Puts virtio_mmio.device=SIZE@0xADDRESS:IRQ, and :ID if there is one, after the boot text, with a space between where
- * there is boot text. SIZE is told in G, M or K, by the largest that divides it, else in bytes. ADDRESS is hexadecimal,
- * in small letters; all else is decimal. This takes at most 80 bytes.
+ * Puts virtio_mmio.device=SIZE@0xADDRESS:IRQ, and :ID if there is one, after the boot text, with a space between if
+ * there is boot text. SIZE is written in G, M or K, by the largest that divides it, else in bytes. ADDRESS is
+ * hexadecimal, in small letters; all else is decimal. This takes at most 80 bytes.
  *
  *   line     a line
  *   size     of the device's memory, in bytes
  *   address  where that begins
  *   irq      its interrupt
  *   has_id   0 for a device without an ID, any other number for one with an ID
- *   id       its ID; not looked at where it has none
+ *   id       its ID; not looked at if it has none
  *
  * Refusals:
  *   NO_ROOM           line_len is not REKUSOYEN_LINE_SIZE
@@ -917,7 +916,7 @@ uint32_t rekusoyen_line_add_virtio_mmio_device(
     uint64_t size, uint64_t address, uint32_t irq, uint32_t has_id, uint32_t id);
 
 /*
- * Writes the line as a C string: the boot text, where there is init text space-dash-dash-space and the init text, and a
+ * Writes the line as a C string: the boot text, if there is init text space-dash-dash-space and the init text, and a
  * zero.
  *
  *   line   a line
@@ -945,8 +944,8 @@ static inline uint32_t rekusoyen_line_as_cstring(
 }
 
 /*
- * Are two lines equal? They are where both would be written, given room, as the same text, or both be refused for the
- * same reason. So the capacity does not count, and all lines with init text alone are equal.
+ * Are two lines equal? They are if both would be written, given room, as the same text, or both be refused for the
+ * same reason. So the capacity does not count, and all lines with only init text are equal.
  *
  *   a, b   two lines, or one line twice
  *   equal  1 if they are equal, else 0
@@ -1013,27 +1012,27 @@ uint32_t rekusoyen_line_plan(
 /* ---- words */
 
 /*
- * Reads the words of a line, by the house rule and not by the kernel's own. Words part at runs of spaces (byte 32 and
- * no other), and none is empty. A double quote opens a stretch in which spaces do not part words and equals signs do
- * not split them; the next one closes it. The first equals sign of a word outside quotes splits its key from its value.
+ * Reads the words of a line, by a rule of this library and not by the kernel's own. Words are separated by runs of
+ * spaces (byte 32 and no other), and none is empty. A double quote opens a stretch in which spaces do not separate
+ * words and equals signs do not split them; the next one closes it. The first equals sign of a word outside quotes
+ * splits its key from its value.
  *
- *   text    a whole line without its closing zero, of any length and any bytes, as rekusoyen_line_as_cstring writes it
- *           or another
- *   starts  where each word starts, counted from the line's first byte
- *   ends    the place after its last byte
- *   splits  the place of its first equals sign outside quotes, or its end where it has none. The key goes from the
- *           start up to the split, the value from the place after the split up to the end
+ *   text    a whole line without its closing zero, of any length and any bytes, from rekusoyen_line_as_cstring or not
+ *   starts  the offset of each word's first byte
+ *   ends    the offset after its last byte
+ *   splits  the offset of its first equals sign outside quotes, or its end if it has none. The key goes from the start
+ *           up to the split, the value from the offset after the split up to the end
  *   count   how many words there are
  *
- * A line of n bytes has at most (n + 1) / 2 words. Time grows with the length alone. A line of 16,384 quotes, or of any
+ * A line of n bytes has at most (n + 1) / 2 words. Time grows only with the length. A line of 16,384 quotes, or of any
  * other number, uses no more stack than an empty one: measured on x86-64, less than 256 bytes.
  *
  * Refusals:
- *   UNCLOSED_QUOTE  the number of quotes is odd; count has the place of the last one, which none closes
+ *   UNCLOSED_QUOTE  the number of quotes is odd; count has the offset of the last one, which none closes
  *   TOO_FEW_PLACES  starts_len, ends_len or splits_len is below the number of words
  *
- * Leaves, accepted: in the three lists the words in their order from the first place on, later places as they were; in
- * count the count. Leaves, refused: starts, ends and splits as they were; count as it was, but for the place of an
+ * Leaves, accepted: in the three lists the words in their order from the first element on, later ones as they were; in
+ * count the count. Leaves, refused: starts, ends and splits as they were; count as it was, but for the offset of an
  * unclosed quote.
  */
 uint32_t rekusoyen_raw_line_words(
