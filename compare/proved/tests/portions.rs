@@ -15,6 +15,7 @@ fn every_split_of_small_loads_and_many_calls() {
         areas: vec![Area::Steps],
         random,
         exhaustive: EXHAUSTIVE_PARTS,
+        tables: 0,
         threads: 1,
         stop_at_difference: false,
         show_progress: false,

@@ -148,7 +148,7 @@ impl<L: InSteps> Steps<L> {
 
     /// Copies exactly the smaller of the budget and what is still to be written. The first step looks at all headers and notes before it
     /// copies anything; an image that is refused is answered there, and nothing is copied. Steps after the answer repeat it and copy
-    /// nothing.
+    /// nothing. The setup header of a bzImage is read from the image of the step that returns it.
     pub fn step(
         &mut self,
         guest: &mut [u8],
