@@ -106,7 +106,8 @@ impl Error {
 /// Specialized [`Result`](result::Result) type for command line operations.
 pub type Result<T> = result::Result<T, Error>;
 
-/// The result of a call that the library answered with a number. The key is that of a call in which a value may be missing.
+/// The result of a call that the library answered with a number. The key is that of a call in which a value may be
+/// missing.
 fn result_of(number: u32, key: &str) -> Result<()> {
     answered(number).map_err(|refusal| {
         let errors = [

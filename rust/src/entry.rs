@@ -1,13 +1,13 @@
-//! The C entry points of the proved library: a slice is a pointer and a length, and the answer is 0 or a refusal's number.
-//! `c/rekusoyen.h` of the repository says what each one does and which bytes and numbers it writes; the names that begin with
-//! `rekusoyen_raw_` take a list of numbers for a struct of that header.
+//! The C entry points of the proved library: a slice is a pointer and a length, and the answer is 0 or a refusal's
+//! number. `c/rekusoyen.h` of the repository says what each one does and which bytes and numbers it writes; the names
+//! that begin with `rekusoyen_raw_` take a list of numbers for a struct of that header.
 //!
 //! The modules [`loader`](crate::loader) and [`cmdline`](crate::cmdline) are the safe way to them.
 //!
 //! # Safety
 //!
-//! Of every function here: each pointer is valid for as many elements as the length after it says, to read, and to write if it is `mut`;
-//! what is `mut` overlaps no other argument; and nobody else uses it during the call.
+//! Of every function here: each pointer is valid for as many elements as the length after it says, to read, and to
+//! write if it is `mut`; what is `mut` overlaps no other argument; and nobody else uses it during the call.
 
 /// How many bytes hold a line.
 pub const LINE_SIZE: usize = 24 + 2 * LIMIT;
@@ -91,8 +91,9 @@ extern "C" {
     /// The format of an image by its magic number: [`ELF`], [`BZIMAGE`], [`ARM64`] or [`UNKNOWN`].
     pub fn rekusoyen_kind(image: *const u8, image_len: usize) -> u32;
 
-    /// Loads an image of a format. `map` has the ranges of guest memory, start and size in turn. `kernel` has [`KERNEL_NUMBERS`]
-    /// numbers: the load address, the kernel's end, PVH, its entry address, and the offset and size of the note descriptor that gives it.
+    /// Loads an image of a format. `map` has the ranges of guest memory, start and size in turn. `kernel` has
+    /// [`KERNEL_NUMBERS`] numbers: the load address, the kernel's end, PVH, its entry address, and the offset and
+    /// size of the note descriptor that gives it.
     pub fn rekusoyen_raw_load(
         guest: *mut u8,
         guest_len: usize,
@@ -108,8 +109,8 @@ extern "C" {
         kernel_len: usize,
     ) -> u32;
 
-    /// What [`rekusoyen_raw_load`] would answer over guest memory of this size with this map. `plan` has [`PLAN_NUMBERS`] numbers: those of
-    /// a load, then the number of parts.
+    /// What [`rekusoyen_raw_load`] would answer over guest memory of this size with this map. `plan` has
+    /// [`PLAN_NUMBERS`] numbers: those of a load, then the number of parts.
     pub fn rekusoyen_raw_plan(
         memory_size: u64,
         map: *const u64,
@@ -124,8 +125,8 @@ extern "C" {
         plan_len: usize,
     ) -> u32;
 
-    /// Part `index` of that load. `part` has [`PART_NUMBERS`] numbers: the guest address, the offset in the image and the size; all 0 if the
-    /// part has no bytes or there is no such part.
+    /// Part `index` of that load. `part` has [`PART_NUMBERS`] numbers: the guest address, the offset in the image and
+    /// the size; all 0 if the part has no bytes or there is no such part.
     pub fn rekusoyen_raw_part(
         memory_size: u64,
         map: *const u64,
@@ -150,8 +151,8 @@ extern "C" {
         highmem: u64,
     ) -> u32;
 
-    /// A step of a load, which copies at most `budget` bytes. `step` has [`STEP_NUMBERS`] numbers: the bytes copied, 1 if the load answers,
-    /// the number of the answer, and those of a load.
+    /// A step of a load, which copies at most `budget` bytes. `step` has [`STEP_NUMBERS`] numbers: the bytes copied,
+    /// 1 if the load answers, the number of the answer, and those of a load.
     pub fn rekusoyen_raw_step(
         guest: *mut u8,
         guest_len: usize,
@@ -166,8 +167,8 @@ extern "C" {
         step_len: usize,
     ) -> u32;
 
-    /// Walks the notes of an ELF image. `note` has [`NOTE_NUMBERS`] numbers: PVH, its entry address, how many note headers were read, and the
-    /// offset and size of the descriptor that gives it.
+    /// Walks the notes of an ELF image. `note` has [`NOTE_NUMBERS`] numbers: PVH, its entry address, how many note
+    /// headers were read, and the offset and size of the descriptor that gives it.
     pub fn rekusoyen_raw_elf_note(
         image: *const u8,
         image_len: usize,
@@ -209,8 +210,8 @@ extern "C" {
         rows_len: usize,
     ) -> u32;
 
-    /// Reads a boot page. `out` has [`PAGE_NUMBERS`] numbers: how many rows, the command line's address, the ramdisk's address and size; `rows`
-    /// has [`PAGE_READ_ROWS`] numbers, and `header` [`SETUP_HEADER_SIZE`] bytes.
+    /// Reads a boot page. `out` has [`PAGE_NUMBERS`] numbers: how many rows, the command line's address, the
+    /// ramdisk's address and size; `rows` has [`PAGE_READ_ROWS`] numbers, and `header` [`SETUP_HEADER_SIZE`] bytes.
     pub fn rekusoyen_raw_page_read(
         page: *const u8,
         page_len: usize,
@@ -314,8 +315,9 @@ extern "C" {
         line_len: usize,
     ) -> u32;
 
-    /// Reads the words of a line without its zero into three lists: where each starts, the index after its last byte, and where its key ends.
-    /// `out` has one number: how many words there are, or the index of a quote that is not closed.
+    /// Reads the words of a line without its zero into three lists: where each starts, the index after its last byte,
+    /// and where its key ends. `out` has one number: how many words there are, or the index of a quote that is not
+    /// closed.
     pub fn rekusoyen_raw_line_words(
         text: *const u8,
         text_len: usize,

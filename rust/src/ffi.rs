@@ -1,14 +1,14 @@
 //! How a C entry point is called: the one `unsafe` call of this crate.
 
-/// Calls a C entry point. `in SLICE` and `mut SLICE` are passed as a pointer and a length, and every other argument as it is. The value
-/// is what the function returns.
+/// Calls a C entry point. `in SLICE` and `mut SLICE` are passed as a pointer and a length, and every other argument
+/// as it is. The value is what the function returns.
 macro_rules! call {
     ($function:ident($($arguments:tt)*)) => {
         $crate::ffi::call!(@ $function [] $($arguments)*,)
     };
     (@ $function:ident [$($passed:expr,)*]) => {
-        // SAFETY: each pointer is that of a slice, with its length. What the function writes is a mutable borrow that lasts until it
-        // returns, so nothing else refers to it. The function keeps no pointer.
+        // SAFETY: each pointer is that of a slice, with its length. What the function writes is a mutable borrow that
+        // lasts until it returns, so nothing else refers to it. The function keeps no pointer.
         unsafe { $crate::entry::$function($($passed),*) }
     };
     (@ $function:ident [$($passed:expr,)*] in $slice:expr, $($rest:tt)*) => {{

@@ -1,4 +1,5 @@
-//! The desk program, started once for each job; and the jobs that it is always asked: every way to print and every way to break a job.
+//! The desk program, started once for each job; and the jobs that it is always asked: every way to print and every
+//! way to break a job.
 
 use crate::answer::Answer;
 use crate::backend::{Backend, Reply};

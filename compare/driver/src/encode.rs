@@ -1,4 +1,4 @@
-//! Questions as bytes, in the form that `docs/PROBE.md` gives.
+//! Questions as bytes, in the form that `docs/SAMPLE.md` gives.
 
 use crate::question::{Call, Load, Loader, Map, Options, Question, Steps};
 

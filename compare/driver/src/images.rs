@@ -42,8 +42,8 @@ pub fn images(files: &[String], backends: &[&Maker]) -> Result<bool> {
     Ok(all_agree)
 }
 
-/// The loads of an image, as an ELF or arm64 one if it has that magic number and else as a bzImage: at its own address, an arm64 one at two
-/// bases.
+/// The loads of an image, as an ELF or arm64 one if it has that magic number and else as a bzImage: at its own
+/// address, an arm64 one at two bases.
 fn questions(image: &[u8]) -> Vec<Question> {
     let load = |offset| Load {
         options: Options {

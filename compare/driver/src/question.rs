@@ -1,4 +1,4 @@
-//! What is asked. `docs/PROBE.md` has the meaning of each kind but jobs; this is the same in Rust.
+//! What is asked. `docs/SAMPLE.md` has the meaning of each kind but jobs; this is the same in Rust.
 
 use second::map::whole;
 

@@ -10,14 +10,15 @@ use std::sync::atomic::{AtomicBool, AtomicUsize, Ordering};
 use std::sync::Mutex;
 use std::time::{Duration, Instant};
 
-/// How many random questions make a part. A part has random numbers of its own, so that the result does not depend on how many threads
-/// there are.
+/// How many random questions make a part. A part has random numbers of its own, so that the result does not depend on
+/// how many threads there are.
 const PART: u64 = 8192;
 /// One in so many random ELF loads is about the rules that depart from the published crate's.
 const DEPARTING: u64 = 4;
 /// One in so many random questions with a guest is over a map.
 const OVER_MAP: u64 = 3;
-/// The exhaustive questions of an area are dealt out to this many parts, and the tables of jobs to more, since each starts a program.
+/// The exhaustive questions of an area are dealt out to this many parts, and the tables of jobs to more, since each
+/// starts a program.
 pub const EXHAUSTIVE_PARTS: usize = 16;
 pub const TABLE_PARTS: usize = 64;
 

@@ -20,7 +20,8 @@ use std::path::Path;
 /// The seed of the random questions; another seed makes another sample.
 const SEED: u64 = 1;
 
-/// How many bytes the random questions of an area and their answers may take. Jobs are asked of the desk program, which has no such form.
+/// How many bytes the random questions of an area and their answers may take. Jobs are asked of the desk program,
+/// which has no such form.
 const BUDGET: [(Area, usize); Area::COUNT - 1] = [
     (Area::Elf, 150_000),
     (Area::Note, 86_500),

@@ -1,9 +1,9 @@
-//! Which error stands for which refusal. Every refusal of a load has an error of its own. An error without a refusal is never given for
-//! the bytes of an image: only a reader of vm-memory that fails gives it. Such a reader may give one with a refusal, too: then it is
-//! the error that linux-loader gives for it.
+//! Which error stands for which refusal. Every refusal of a load has an error of its own. An error without a refusal
+//! is never given for the bytes of an image: only a reader of vm-memory that fails gives it. Such a reader may give
+//! one with a refusal, too: then it is the error that linux-loader gives for it.
 //!
-//! A map that is not valid has an error of its own if the caller gives the map. Here it stands for the one fault that a map of vm-memory's
-//! regions can have, which is too many ranges.
+//! A map that is not valid has an error of its own if the caller gives the map. Here it stands for the one fault that
+//! a map of vm-memory's regions can have, which is too many ranges.
 
 use super::{arm64, bzimage, elf, Error, Format};
 use crate::Refusal;
@@ -97,7 +97,8 @@ fn by_line(refusal: Refusal) -> Option<Error> {
 }
 
 impl Error {
-    /// The refusal that this error stands for. `None` if it stands for none: no bytes lead to it, only a reader that fails.
+    /// The refusal that this error stands for. `None` if it stands for none: no bytes lead to it, only a reader that
+    /// fails.
     pub fn refusal(&self) -> Option<Refusal> {
         if *self == Error::CommandLineCopy {
             // linux-loader's error for a line that meets a hole of vm-memory's guest memory

@@ -43,7 +43,8 @@ impl Options {
 pub(super) type Loaded = (KernelLoaderResult, Option<PvhNote>);
 
 impl Format {
-    /// The format of an image by its magic number: that of ELF, else of a bzImage, else of an arm64 Image. Nothing else is checked.
+    /// The format of an image by its magic number: that of ELF, else of a bzImage, else of an arm64 Image. Nothing
+    /// else is checked.
     ///
     /// ```
     /// use rekusoyen::loader::Format;

@@ -39,8 +39,8 @@ pub trait KernelLoader {
         F: Read + ReadVolatile + Seek;
 }
 
-/// [`Elf`](super::Elf), [`BzImage`](super::BzImage) and [`arm64::Image`]. The offset of an arm64 Image is its base, and 0 if none is given;
-/// the start of high memory has no meaning for it.
+/// [`Elf`](super::Elf), [`BzImage`](super::BzImage) and [`arm64::Image`]. The offset of an arm64 Image is its base,
+/// and 0 if none is given; the start of high memory has no meaning for it.
 impl<L: InSteps> KernelLoader for L {
     fn load<F, M: GuestMemoryBackend>(
         guest_mem: &M,

@@ -146,9 +146,10 @@ impl<L: InSteps> Steps<L> {
         Steps { state, loader }
     }
 
-    /// Copies exactly the smaller of the budget and what is still to be written. The first step looks at all headers and notes before it
-    /// copies anything; an image that is refused is answered there, and nothing is copied. Steps after the answer repeat it and copy
-    /// nothing. The setup header of a bzImage is read from the image of the step that returns it.
+    /// Copies exactly the smaller of the budget and what is still to be written. The first step looks at all headers
+    /// and notes before it copies anything; an image that is refused is answered there, and nothing is copied. Steps
+    /// after the answer repeat it and copy nothing. The setup header of a bzImage is read from the image of the step
+    /// that returns it.
     pub fn step(
         &mut self,
         guest: &mut [u8],
@@ -171,7 +172,8 @@ impl<L: InSteps> Steps<L> {
     }
 }
 
-/// The steps of one load, all with one budget: an iterator that ends after the step that answers, or after a call that was refused.
+/// The steps of one load, all with one budget: an iterator that ends after the step that answers, or after a call
+/// that was refused.
 #[derive(Debug)]
 pub struct Portions<'a, L: InSteps> {
     load: Steps<L>,

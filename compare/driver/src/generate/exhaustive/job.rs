@@ -1,5 +1,5 @@
-//! Every small table of a job: each count, kind, place and size at its limit and one off it, every length of a job, and images and lines that
-//! end at and around the end of guest memory.
+//! Every small table of a job: each count, kind, place and size at its limit and one off it, every length of a job,
+//! and images and lines that end at and around the end of guest memory.
 
 use crate::desk::GUEST;
 use crate::examples::{self, put};
