@@ -24,7 +24,7 @@ compare images FILE..     loads real images by everyone and compares
 --elf N --note N --bzimage N --line N --load N --words N --page N --steps N --arm64 N --start N --job N
                           how many random questions of each area, beside the exhaustive ones
 --exhaustive N            how many sixteenths of the exhaustive questions are asked, all 16 where none is given
---tables N                how many 64ths of the small tables of jobs are asked, 4 where none is given
+--tables N                how many 64ths of the small tables of jobs are asked, 4 if none is given
 --desk 'PROGRAM WORD..'   the desk program, which is started for each job; without it jobs are asked of nobody
 ";
 

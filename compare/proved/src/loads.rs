@@ -41,8 +41,8 @@ fn pvh(code: u64, address: u64, place: u64, size: u64) -> Pvh {
     }
 }
 
-/// What a load of an image answers that returned a number and these values.
-pub fn told(
+/// The answer of a load that returned a number and these values.
+pub fn load_answer(
     loader: Loader,
     image: &[u8],
     number: u32,
@@ -77,7 +77,7 @@ pub fn answer(loader: Loader, load: &Load, map: &[u64]) -> Answer {
     let number = call!(rekusoyen_raw_load(
         mut &mut guest, in map, in image, format, flags, offset, highmem, mut &mut kernel
     ));
-    match told(loader, image, number, kernel) {
+    match load_answer(loader, image, number, kernel) {
         Told::Elf(outcome) => Answer::Elf { outcome, guest },
         Told::Bzimage(outcome) => Answer::Bzimage { outcome, guest },
         Told::Arm64(outcome) => Answer::Arm64 { outcome, guest },

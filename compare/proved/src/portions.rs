@@ -26,10 +26,10 @@ pub fn steps(asked: &Steps) -> StepsTold {
         calls.push(match outcome(number, || ()) {
             Ok(()) if is_answered == 1 => {
                 // the setup header is asked for once, when the load answers
-                let told = || loads::told(asked.loader, image, answer as u32, kernel);
-                let (told, numbers) = first.get_or_insert_with(|| (told(), step[2..].to_vec()));
+                let loaded = || loads::load_answer(asked.loader, image, answer as u32, kernel);
+                let (loaded, numbers) = first.get_or_insert_with(|| (loaded(), step[2..].to_vec()));
                 assert_eq!(step[2..], *numbers, "a step after the answer repeats it");
-                StepTold::Step(copied, Some(told.clone()))
+                StepTold::Step(copied, Some(loaded.clone()))
             }
             Ok(()) => {
                 assert!(step[1..].iter().all(|number| *number == 0));
