@@ -1,6 +1,6 @@
-//! The bytes of an image that a plan looks at, read from a file or another reader. All other bytes count as 0: it is proved that two images of one
-//! length that agree in their footprint have the same plan, and that its parts, copied from the whole image, are its load (`planned-elsewhere` of the
-//! crates `elf`, `bzimage` and `arm64`).
+//! The bytes of an image that a plan looks at, read from a file or another reader. All other bytes count as 0: it is
+//! proved that two images of one length that agree in their footprint have the same plan, and that its parts, copied
+//! from the whole image, are its load (`docs/PROMISES.md` of the repository).
 
 use std::hint::black_box;
 use std::io::{self, Read, Seek, SeekFrom};
