@@ -1,4 +1,4 @@
-//! How a C entry point is called: the one `unsafe` call of this crate.
+//! How a C entry point is called: the one place of this crate with an `unsafe` call of C.
 
 /// Calls a C entry point. `in SLICE` and `mut SLICE` are passed as a pointer and a length, and every other argument
 /// as it is. The value is what the function returns.
