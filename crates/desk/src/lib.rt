@@ -28,7 +28,11 @@ pub struct Text {
 fn format_of(kind: u64) -> Format
     ensures { λ r. ⌜ r ≡ imageFormat kind ⌝ }
 {
-    if kind == 1 { Format::Elf } else { Format::BzImage }
+    if kind == 1 {
+        Format::Elf
+    } else {
+        Format::BzImage
+    }
 }
 
 // Loads an image without an offset and without a start of high memory.
