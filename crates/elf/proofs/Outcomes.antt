@@ -8,6 +8,10 @@ use Rattle.elf.proofs.parts.plan.Kinds as parts-plan-kinds
 use Rattle.elf.proofs.parts.plan.Reads as parts-plan-reads
 use Rattle.elf.proofs.parts.count.Kinds as parts-count-kinds
 use Rattle.elf.proofs.parts.count.Reads as parts-count-reads
+use Rattle.elf.proofs.parts.of_header.Kinds as of-header-kinds
+use Rattle.elf.proofs.parts.of_header.Reads as of-header-reads
+use Rattle.elf.proofs.parts.table.Kinds as table-kinds
+use Rattle.elf.proofs.parts.table.Reads as table-reads
 use Rattle.elf.proofs.parts.part.Kinds as parts-part-kinds
 use Rattle.elf.proofs.parts.part.Reads as parts-part-reads
 
@@ -22,3 +26,9 @@ parts-count-one κs a z z' ws ws' p q = (meet p q, refl)
 
 pub parts-part-one : OneOutcome 1 parts-part-kinds.ps parts-part-kinds.r parts-part-reads.Post
 parts-part-one κs a z z' ws ws' p q = (meet p q, refl)
+
+pub of-header-one : OneOutcome 1 of-header-kinds.ps of-header-kinds.r of-header-reads.Post
+of-header-one κs a z z' ws ws' p q = (meet p q, refl)
+
+pub table-one : OneOutcome 1 table-kinds.ps table-kinds.r table-reads.Post
+table-one κs a z z' ws ws' p q = (meet p q, refl)

@@ -3,20 +3,32 @@ use Prim.Native.Nat.{ℕ, _+_, _-_, _*_, _≤_}
 use mathlib.Core.Path.{_≡_, ap, _∙_}
 use mathlib.Core.List.{List}
 use native.Mathlib.Omega.{arith}
+use native.Mathlib.Nat.{add-zero}
 use lib.ListN.{take, drop}
-use Rattle.fields.specs.Numbers.{le, ReadAs}
+use Rattle.fields.specs.Numbers.{le}
 use Rattle.fields.proofs.NumbersLaws.{le-within}
 use Rattle.elf.specs.Header.{e-phoff, programHeaderSize}
-use Rattle.elf.specs.ProgramHeaders.{headerPlace}
+use Rattle.elf.specs.ProgramHeaders.{headerAt, headerOf}
 
--- a field of program header i, read in the header's own bytes
-module _ (image : List ℕ) (phoff i : ℕ) (given : phoff ≡ e-phoff image) where
-  abbrev place : ℕ
-  place = phoff + programHeaderSize * i
+-- a program header, read in its own bytes
+module _ (image : List ℕ) (place : ℕ) where
+  abbrev own : List ℕ
+  own = take (place + programHeaderSize - place) (drop place image)
 
-  pub header-field : (n p : ℕ) {r : ℕ} → p + n ≤ programHeaderSize → ReadAs n (take (place + programHeaderSize - place) (drop place image)) p r
-      → r ≡ le n image (headerPlace image i + p)
-  header-field n p h read =
-      read .value
-      ∙ le-within n place (place + programHeaderSize - place) image p (omega arith)
-      ∙ ap (λ (from : ℕ). le n image (from + programHeaderSize * i + p)) given
+  field-own : (n p : ℕ) → p + n ≤ programHeaderSize → le n own p ≡ le n image (place + p)
+  field-own n p h = le-within n place (place + programHeaderSize - place) image p (omega arith)
+
+  pub header-own : headerAt own 0 ≡ headerAt image place
+  unfolding headerAt
+  header-own =
+      rw (
+        field-own 8 40 (omega arith),
+        field-own 8 32 (omega arith),
+        field-own 8 24 (omega arith),
+        field-own 8 8 (omega arith),
+        field-own 4 0 (omega arith),
+        add-zero,
+      )
+
+pub header-read : (image : List ℕ) (phoff i : ℕ) → phoff ≡ e-phoff image → headerAt image (phoff + programHeaderSize * i) ≡ headerOf image i
+header-read image phoff i given = ap (λ (from : ℕ). headerAt image (from + programHeaderSize * i)) given

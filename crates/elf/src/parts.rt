@@ -5,6 +5,7 @@ ghost use Prim.Native.Nat.{_<_};
 ghost use Rattle.elf.specs.Header.{e-phoff, e-phnum};
 ghost use Rattle.elf.specs.Parts.{headerPart, partAt, partOf};
 ghost use Rattle.elf.specs.Pouring.{planOf};
+ghost use Rattle.elf.specs.ProgramHeaders.{headerAt};
 use crate::program_headers;
 use crate::program_headers::ProgramHeader;
 use crate::survey;
@@ -49,6 +50,20 @@ fn part_of(shift: u64, h: ProgramHeader) -> Part
         place: p_offset,
         size: h.p_filesz,
     }
+}
+
+// The part of a program header whose bytes these are; past their end they count as 0.
+pub fn of_header(header: &[u8], shift: u64) -> Part
+    ensures { λ r. ⌜ r ≡ headerPart shift (headerAt (now (header .entry)) 0) ⌝ }
+{
+    part_of(shift, program_headers::read(header))
+}
+
+// Where the program headers begin in the image.
+pub fn table(image: &[u8]) -> u64
+    ensures { λ r. ⌜ r ≡ e-phoff (now (image .entry)) ⌝ }
+{
+    numbers::read_u64(image, 32)
 }
 
 // The part of program header i of those from e_phoff on, if the header lies in the image.

@@ -13,7 +13,7 @@ ghost use mathlib.Core.Path.{_≡_};
 ghost use Prim.Native.Nat.{_+_, _≤_};
 ghost use lib.ListN.{length};
 ghost use Rattle.elf.specs.Header.{e-phoff};
-ghost use Rattle.elf.specs.ProgramHeaders.{headerPlace, headerOf};
+ghost use Rattle.elf.specs.ProgramHeaders.{headerPlace, headerAt, headerOf};
 use fields::numbers;
 use guest::GuestAddress;
 use guest::ImagePlace;
@@ -27,13 +27,10 @@ pub struct ProgramHeader {
     pub p_memsz: u64,
 }
 
-// Program header i, which stands in the image, of those from e_phoff on. Its 56 bytes are lent on: in a slice of known length no field asks for its bounds.
-pub(crate) fn read_header(image: &[u8], e_phoff: u64, i: u64) -> ProgramHeader
-    requires { ⌜ («e_phoff» ≡ e-phoff (now image)) × (headerPlace (now image) i + 56 ≤ length (now image)) ⌝ }
-    ensures { λ r. ⌜ r ≡ headerOf (now (image .entry)) i ⌝ }
+// The program header whose bytes these are; past their end they count as 0.
+pub(crate) fn read(header: &[u8]) -> ProgramHeader
+    ensures { λ r. ⌜ r ≡ headerAt (now (header .entry)) 0 ⌝ }
 {
-    let at = (e_phoff + 56 * i) as usize;
-    let header = &image[at..at + 56];
     let p_type = numbers::read_u32(header, 0);
     let p_offset = numbers::read_u64(header, 8);
     let p_paddr = numbers::read_u64(header, 24);
@@ -46,4 +43,13 @@ pub(crate) fn read_header(image: &[u8], e_phoff: u64, i: u64) -> ProgramHeader
         p_filesz: p_filesz,
         p_memsz: p_memsz,
     }
+}
+
+// Program header i, which lies in the image, of those from e_phoff on. In a slice of known length no field is tested for its bounds.
+pub(crate) fn read_header(image: &[u8], e_phoff: u64, i: u64) -> ProgramHeader
+    requires { ⌜ («e_phoff» ≡ e-phoff (now image)) × (headerPlace (now image) i + 56 ≤ length (now image)) ⌝ }
+    ensures { λ r. ⌜ r ≡ headerOf (now (image .entry)) i ⌝ }
+{
+    let at = (e_phoff + 56 * i) as usize;
+    read(&image[at..at + 56])
 }

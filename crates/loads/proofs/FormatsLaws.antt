@@ -1,9 +1,10 @@
 -- Laws of the plan and its parts, of any format: each format has shown that its parts are what it writes, and that they fit.
-use Prim.Native.Nat.{ℕ, suc, _+_, _-_, _≤_, _<_}
+use Prim.Native.Nat.{ℕ, zero, suc, _+_, _-_, _*_, _≤_, _<_}
 use mathlib.Core.Path.{_≡_, refl, sym, _∙_, ap, subst, subst⁻¹}
 use mathlib.Core.Bool.{Bool, true, false}
 use mathlib.Core.List.{List, []}
 use native.Mathlib.Omega.{arith}
+use borrow.Author.Tests.{eq-eqb, lt-ltb}
 use lib.Dec.{eqb}
 use lib.ListN.{length}
 use Rattle.answers.specs.Pick.{pick}
@@ -23,18 +24,26 @@ use Rattle.guest.specs.declared.Part.{Part}
 use Rattle.guest.specs.declared.Portion.{Portion}
 use Rattle.guest.proofs.PartsLaws.{kept-stands, parts-inside, parts-kept, none-fits}
 use Rattle.guest.proofs.StreamLaws.{pour-append}
+use Rattle.fields.proofs.RangesLaws.{sum-within}
+use Rattle.elf.specs.Header.{e-phoff, e-phnum, programHeaderSize}
+use Rattle.elf.specs.Parts.{headerPart}
+use Rattle.elf.specs.Parts as elf-parts
 use Rattle.elf.specs.Pouring as elf
+use Rattle.elf.specs.ProgramHeaders.{headerPlace, headerOf}
 use Rattle.elf.specs.Verdict.{Accepted, is-accepted}
+use Rattle.elf.proofs.FitsLaws.{accepted-stand}
 use Rattle.elf.proofs.PartsLaws as elf-laws
 use Rattle.bzimage.specs.Plan as bzimage
 use Rattle.bzimage.proofs.PlanLaws as bzimage-laws
 use Rattle.arm64.specs.Plan as arm64
 use Rattle.arm64.proofs.PlanLaws as arm64-laws
 use Rattle.loads.specs.Formats.{answerBy, countBy, onlyAt, partBy, answerOf, countOf, partOf, planOf}
+use Rattle.loads.specs.Layout.{layoutBy, layoutOf, partIn, TableStands, headers, bzimage-has-none, arm64-has-none}
 use Rattle.loads.specs.Steps.{testedPart}
 use Rattle.loads.specs.declared.Format.{Format}
 use Rattle.loads.specs.declared.Format.the-variants.{Elf, BzImage, Arm64}
 use Rattle.loads.specs.declared.Options.{Options}
+use Rattle.loads.specs.declared.formats.Layout.{Layout}
 
 -- ---- the plan of a load is its format's
 
@@ -96,6 +105,16 @@ module _ (image : List ℕ) (m : Memory) (o : Options) where
   pub parts-fit : {k : KernelLoaderResult} → answerOf image m o ≡ Loaded k → (i : ℕ) → i < countOf image o → Fits (length image) m (partOf image o i)
   parts-fit is = fit-by image m (o .«kernel_offset») (o .«highmem_start») (o .format) is
 
+  -- of an accepted load the program headers lie in the image
+  stands-by : (f : Format) {k : KernelLoaderResult} → answerBy f image m (o .«kernel_offset») (o .«highmem_start») ≡ Loaded k → TableStands image f
+  unfolding answerBy
+  stands-by Elf is = headers (accepted-stand image m (o .«kernel_offset») (o .«highmem_start») (subst⁻¹ Accepted is is-accepted))
+  stands-by BzImage is = bzimage-has-none
+  stands-by Arm64 is = arm64-has-none
+
+  pub table-stands : {a : Answer} {k : KernelLoaderResult} → a ≡ answerOf image m o → a ≡ Loaded k → TableStands image (o .format)
+  table-stands ea ek = stands-by (o .format) (sym ea ∙ ek)
+
   -- so testing them again changes nothing of what they write
   pub parts-tested : {k : KernelLoaderResult} → answerOf image m o ≡ Loaded k
       → partsFrom (countOf image o) image (testedPart image m o) 0 ≡ partsFrom (countOf image o) image (partOf image o) 0
@@ -154,11 +173,50 @@ short-sum passed k size top short small = omega arith
 
 -- ---- all parts, one after the other
 
+module _ (image : List ℕ) (offset : Given) (i : ℕ) where
+  -- the part of a header that lies in the image
+  table-part : i < e-phnum image → headerPlace image i + programHeaderSize ≤ length image
+      → headerPart (amountOf offset) (headerOf image i) ≡ elf-parts.partOf image offset i
+  unfolding elf-parts.partOf elf-parts.partAt pick
+  table-part lt stands =
+      rw (lt-ltb i (e-phnum image) lt, sum-within (length image) (e-phoff image) (programHeaderSize * i + programHeaderSize) (omega arith))
+
+  layout-by : (f : Format) → TableStands image f → i < countBy f image → partIn image (layoutBy f image offset) i ≡ partBy f image offset i
+  unfolding partIn layoutBy partBy countBy onlyAt pick
+  layout-by Elf (headers h) lt = table-part lt (h .stands i lt)
+  layout-by BzImage bzimage-has-none lt = sym (rw (eq-eqb i 0 (omega arith)))
+  layout-by Arm64 arm64-has-none lt = sym (rw (eq-eqb i 0 (omega arith)))
+
+  fits-by : (f : Format) → TableStands image f → i < countBy f image → layoutBy f image offset .«by_table» ≡ true
+      → layoutBy f image offset .table + 56 * i + 56 ≤ length image
+  unfolding layoutBy countBy
+  fits-by Elf (headers h) lt is = h .stands i lt
+  fits-by BzImage bzimage-has-none lt is = let w : _≡_ {A = ℕ} 0 1 = cc in absurd (omega arith)
+  fits-by Arm64 arm64-has-none lt is = let w : _≡_ {A = ℕ} 0 1 = cc in absurd (omega arith)
+
+-- parts that agree, one by one
+same-parts : (image : List ℕ) (p q : ℕ → Part) (k i : ℕ) → ((j : ℕ) → j < i + k → p j ≡ q j) → partsFrom k image p i ≡ partsFrom k image q i
+unfolding partsFrom
+same-parts image p q zero i same = refl
+same-parts image p q (suc k) i same = rw (same i (omega arith), same-parts image p q k (suc i) (λ j lt. same j (omega arith)))
+
+module _ (image : List ℕ) (o : Options) (stands : TableStands image (o .format)) {n : ℕ} (counted : n ≡ countOf image o) {l : Layout}
+    (laid : l ≡ layoutOf image o) where
+  pub layout-fits : (i : ℕ) → i < n → l .«by_table» ≡ true → l .table + 56 * i + 56 ≤ length image
+  layout-fits i lt =
+      subst⁻¹ (λ (x : Layout). x .«by_table» ≡ true → x .table + 56 * i + 56 ≤ length image) laid
+      (fits-by image (o .«kernel_offset») i (o .format) stands (subst (λ k. i < k) counted lt))
+
+  pub layout-parts : partsFrom n image (partIn image l) 0 ≡ partsFrom (countOf image o) image (partOf image o) 0
+  layout-parts =
+      ap (λ k. partsFrom k image (partIn image l) 0) counted ∙ ap (λ (x : Layout). partsFrom (countOf image o) image (partIn image x) 0) laid
+      ∙ same-parts image (partIn image (layoutOf image o)) (partOf image o) (countOf image o) 0 (λ j lt. layout-by image (o .«kernel_offset») j (o .format) stands (omega arith))
+
 -- a part that is copied
-pub part-poured : (image : List ℕ) (o : Options) (i : ℕ) (before : List ℕ) {p : Part} {after : List ℕ} → p ≡ partOf image o i
-    → after ≡ pour (streamAt (p .address .0) (bytesAt image (p .place .0) (p .size))) before → after ≡ pour (partStream image (partOf image o i)) before
+pub part-poured : (image : List ℕ) (before : List ℕ) {p q : Part} {after : List ℕ} → p ≡ q
+    → after ≡ pour (streamAt (p .address .0) (bytesAt image (p .place .0) (p .size))) before → after ≡ pour (partStream image q) before
 unfolding partStream
-part-poured image o i before {p} e wrote =
+part-poured image before e wrote =
     wrote ∙ ap (λ (x : Part). pour (streamAt (x .address .0) (bytesAt image (x .place .0) (x .size))) before) e
 
 module _ (image : List ℕ) (part : ℕ → Part) (i : ℕ) (guest : List ℕ) where

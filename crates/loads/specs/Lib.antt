@@ -3,6 +3,7 @@
 -- what contracts are written with
 pub mod Kinds
 pub mod Formats
+pub mod Layout
 pub mod Calls
 pub mod Steps
 -- what theorems are stated with besides

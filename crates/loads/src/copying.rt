@@ -4,6 +4,7 @@ ghost use Rattle.guest.specs.Loading.{Loads};
 ghost use Rattle.guest.specs.Parts.{portionOf, partsFrom};
 ghost use Rattle.guest.specs.Stream.{pour};
 ghost use Rattle.loads.specs.Formats.{countOf, partOf};
+ghost use Rattle.loads.specs.Layout.{TableStands};
 ghost use Rattle.loads.specs.Steps.{testedPart};
 use crate::Options;
 use crate::formats;
@@ -14,12 +15,14 @@ use guest::parts;
 
 // All bytes of a load that is accepted: its parts have room, and are not tested again.
 pub(crate) fn copy_all(guest: &mut [u8], image: &[u8], options: Options)
+    requires { ⌜ TableStands (now image) (options .format) ⌝ }
     ensures { λ _. ⌜ now (guest .exit) ≡ pour (partsFrom (countOf (now (image .entry)) options) (now (image .entry)) (partOf (now (image .entry)) options) 0) (now (guest .entry)) ⌝ }
 {
+    let layout = formats::read_layout(image, options);
     let n = formats::count(image, options);
     let mut i: u64 = 0;
     while i < n {
-        let part = formats::part(image, options, i);
+        let part = formats::part_in(image, layout, i);
         let address = part.address;
         let place = part.place;
         let size = part.size;

@@ -1,7 +1,11 @@
 // What each format gives: its magic number, its answer, how many parts it has, and each part by its number.
 ghost use mathlib.Core.Path.{_≡_};
+ghost use mathlib.Core.Bool.{true};
+ghost use Prim.Native.Nat.{_+_, _*_, _≤_};
+ghost use lib.ListN.{length};
 ghost use Rattle.loads.specs.Formats.{answerOf, countOf, onlyAt, partOf};
 ghost use Rattle.loads.specs.Kinds.{kindOf};
+ghost use Rattle.loads.specs.Layout.{layoutOf, partIn};
 use crate::Format;
 use crate::Options;
 use bzimage::setup_header;
@@ -83,4 +87,51 @@ pub fn part(image: &[u8], options: Options, i: u64) -> Part
             i,
         ),
     }
+}
+
+// What the parts of a load are read from: a table of program headers, or the one part.
+pub(crate) struct Layout {
+    pub by_table: bool,
+    pub table: u64,
+    pub shift: u64,
+    pub one: Part,
+}
+
+pub(crate) fn read_layout(image: &[u8], options: Options) -> Layout
+    ensures { λ r. ⌜ r ≡ layoutOf (now (image .entry)) options ⌝ }
+{
+    let format = options.format;
+    let offset = options.kernel_offset;
+    match format {
+        Format::Elf => Layout {
+            by_table: true,
+            table: elf::parts::table(image),
+            shift: addresses::amount(offset),
+            one: parts::nothing(),
+        },
+        Format::BzImage => Layout {
+            by_table: false,
+            table: 0,
+            shift: 0,
+            one: bzimage::parts::part(image, offset),
+        },
+        Format::Arm64 => Layout {
+            by_table: false,
+            table: 0,
+            shift: 0,
+            one: arm64::parts::part(image, GuestAddress(addresses::amount(offset))),
+        },
+    }
+}
+
+// Part i, below the count, of a load whose program headers lie in the image: they are not tested again.
+pub(crate) fn part_in(image: &[u8], layout: Layout, i: u64) -> Part
+    requires { ⌜ (layout .«by_table» ≡ true → layout .table + 56 * i + 56 ≤ length (now image)) ⌝ }
+    ensures { λ r. ⌜ r ≡ partIn (now (image .entry)) layout i ⌝ }
+{
+    if layout.by_table {
+        let at = (layout.table + 56 * i) as usize;
+        return elf::parts::of_header(&image[at..at + 56], layout.shift);
+    }
+    layout.one
 }
