@@ -2,12 +2,15 @@
 use Prim.Native.Nat.{ℕ, _+_, _-_, _*_, _≤_}
 use mathlib.Core.Path.{_≡_, ap, _∙_}
 use mathlib.Core.List.{List}
+use borrow.Author.Tests.{le-ltb}
 use native.Mathlib.Omega.{arith}
 use native.Mathlib.Nat.{add-zero}
-use lib.ListN.{take, drop}
+use lib.ListN.{length, take, drop, length-take, length-drop}
+use Rattle.answers.specs.Pick.{pick}
 use Rattle.fields.specs.Numbers.{le}
 use Rattle.fields.proofs.NumbersLaws.{le-within}
 use Rattle.elf.specs.Header.{e-phoff, programHeaderSize}
+use Rattle.elf.specs.Parts.{headerPart, ownPart}
 use Rattle.elf.specs.ProgramHeaders.{headerAt, headerOf}
 
 -- a program header, read in its own bytes
@@ -29,6 +32,13 @@ module _ (image : List ℕ) (place : ℕ) where
         field-own 4 0 (omega arith),
         add-zero,
       )
+
+  -- and its part
+  pub own-part : (shift : ℕ) → place + programHeaderSize ≤ length image → ownPart own shift ≡ headerPart shift (headerAt image place)
+  unfolding ownPart pick
+  own-part shift h =
+      let long : 56 ≤ length own = omega (arith, length-take (place + programHeaderSize - place) (drop place image), length-drop place image) in
+      rw (le-ltb (length own) 56 long, header-own)
 
 pub header-read : (image : List ℕ) (phoff i : ℕ) → phoff ≡ e-phoff image → headerAt image (phoff + programHeaderSize * i) ≡ headerOf image i
 header-read image phoff i given = ap (λ (from : ℕ). headerAt image (from + programHeaderSize * i)) given

@@ -10,7 +10,7 @@ use Rattle.guest.specs.Parts.{noPart}
 use Rattle.guest.specs.declared.Given.{Given}
 use Rattle.guest.specs.declared.Part.{Part}
 use Rattle.elf.specs.Header.{e-phoff, e-phnum, programHeaderSize}
-use Rattle.elf.specs.ProgramHeaders.{headerOf}
+use Rattle.elf.specs.ProgramHeaders.{headerAt, headerOf}
 use Rattle.elf.specs.declared.program_headers.ProgramHeader.{ProgramHeader}
 
 -- of a program header: its file bytes, if it is loadable, at its address moved by shift
@@ -21,6 +21,10 @@ headerPart shift h =
     (record { address = record { 0 = shift + h .«p_paddr» .0 }; place = h .«p_offset»; size = h .«p_filesz» })
     noPart)
     noPart
+
+-- of a program header whose own bytes these are; fewer than its 56 bytes have none
+unfoldable pub ownPart : List ℕ → ℕ → Part
+ownPart header shift = pick (ltb (length header) 56) noPart (headerPart shift (headerAt header 0))
 
 -- of program header i, if the header lies in the image
 unfoldable pub partAt : List ℕ → ℕ → ℕ → Part

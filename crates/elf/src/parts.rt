@@ -3,9 +3,8 @@
 ghost use mathlib.Core.Path.{_≡_};
 ghost use Prim.Native.Nat.{_<_};
 ghost use Rattle.elf.specs.Header.{e-phoff, e-phnum};
-ghost use Rattle.elf.specs.Parts.{headerPart, partAt, partOf};
+ghost use Rattle.elf.specs.Parts.{headerPart, ownPart, partAt, partOf};
 ghost use Rattle.elf.specs.Pouring.{planOf};
-ghost use Rattle.elf.specs.ProgramHeaders.{headerAt};
 use crate::program_headers;
 use crate::program_headers::ProgramHeader;
 use crate::survey;
@@ -52,11 +51,14 @@ fn part_of(shift: u64, h: ProgramHeader) -> Part
     }
 }
 
-// The part of a program header whose bytes these are; past their end they count as 0.
+// The part of a program header whose bytes these are; fewer than its 56 bytes have none.
 pub fn of_header(header: &[u8], shift: u64) -> Part
-    ensures { λ r. ⌜ r ≡ headerPart shift (headerAt (now (header .entry)) 0) ⌝ }
+    ensures { λ r. ⌜ r ≡ ownPart (now (header .entry)) shift ⌝ }
 {
-    part_of(shift, program_headers::read(header))
+    if header.len() < 56 {
+        return parts::nothing();
+    }
+    part_of(shift, program_headers::read_at(header, 0))
 }
 
 // Where the program headers begin in the image.

@@ -27,10 +27,12 @@ pub struct ProgramHeader {
     pub p_memsz: u64,
 }
 
-// The program header whose bytes these are; past their end they count as 0.
-pub(crate) fn read(header: &[u8]) -> ProgramHeader
-    ensures { λ r. ⌜ r ≡ headerAt (now (header .entry)) 0 ⌝ }
+// The program header at a place of the image. Its 56 bytes are a slice of known length, in which no field is tested for its bounds.
+pub(crate) fn read_at(image: &[u8], at: u64) -> ProgramHeader
+    requires { ⌜ at + 56 ≤ length (now image) ⌝ }
+    ensures { λ r. ⌜ r ≡ headerAt (now (image .entry)) at ⌝ }
 {
+    let header = &image[at as usize..at as usize + 56];
     let p_type = numbers::read_u32(header, 0);
     let p_offset = numbers::read_u64(header, 8);
     let p_paddr = numbers::read_u64(header, 24);
@@ -45,11 +47,10 @@ pub(crate) fn read(header: &[u8]) -> ProgramHeader
     }
 }
 
-// Program header i, which lies in the image, of those from e_phoff on. In a slice of known length no field is tested for its bounds.
+// Program header i, which lies in the image, of those from e_phoff on.
 pub(crate) fn read_header(image: &[u8], e_phoff: u64, i: u64) -> ProgramHeader
     requires { ⌜ («e_phoff» ≡ e-phoff (now image)) × (headerPlace (now image) i + 56 ≤ length (now image)) ⌝ }
     ensures { λ r. ⌜ r ≡ headerOf (now (image .entry)) i ⌝ }
 {
-    let at = (e_phoff + 56 * i) as usize;
-    read(&image[at..at + 56])
+    read_at(image, e_phoff + 56 * i)
 }

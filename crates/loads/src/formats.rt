@@ -124,7 +124,7 @@ pub(crate) fn read_layout(image: &[u8], options: Options) -> Layout
     }
 }
 
-// Part i, below the count, of a load whose program headers lie in the image: they are not tested again.
+// Part i of a load whose program headers lie in the image.
 pub(crate) fn part_in(image: &[u8], layout: Layout, i: u64) -> Part
     requires { ⌜ (layout .«by_table» ≡ true → layout .table + 56 * i + 56 ≤ length (now image)) ⌝ }
     ensures { λ r. ⌜ r ≡ partIn (now (image .entry)) layout i ⌝ }

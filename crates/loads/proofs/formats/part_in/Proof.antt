@@ -1,11 +1,9 @@
 -- `formats::part_in`: a header of the table, or the one part.
 use borrow.Author.Needs.{needs}
 use Prim.Native.Nat.{_+_, _*_}
-use mathlib.Core.Path.{_∙_, ap, sym}
 use native.Mathlib.Omega.{arith}
 use Rattle.answers.specs.Pick.{pick}
-use Rattle.elf.specs.Parts.{headerPart}
-use Rattle.elf.proofs.ProgramHeadersLaws.{header-own}
+use Rattle.elf.proofs.ProgramHeadersLaws.{own-part}
 use Rattle.loads.specs.Layout.{partIn}
 use Rattle.loads.proofs.formats.part_in.Statement.{statement}
 use Rattle.loads.proofs.formats.part_in.Tie as tie
@@ -26,7 +24,8 @@ returns : tie.Need-returns
 unfolding partIn pick
 returns c =
     let args = c .before .before .before .before .before .args in
-    rw (c .before .before .before .if1 .taken, c .of-header .ensures, header-own (args .image .now) (args .layout .table + 56 * args .i))
+    let lies = c .before .before .before .before .before .pre (c .before .before .before .if1 .taken) in
+    rw (c .before .before .before .if1 .taken, c .of-header .ensures) (own-part (args .image .now) (args .layout .table + 56 * args .i) (args .layout .shift) (omega arith))
 
 returns-2 : tie.Need-returns-2
 unfolding partIn pick
