@@ -1,5 +1,5 @@
 /*
- * Loads an ELF image from standard input into guest memory, and a command line with it.
+ * Loads a kernel image of any format from standard input into guest memory, and a command line with it.
  *
  * build: cc example.c $(pkg-config --cflags --libs rekusoyen) -o example
  * usage: example < IMAGE
@@ -18,7 +18,7 @@ int main(void)
 {
     static uint8_t line[REKUSOYEN_LINE_SIZE];
     const uint64_t map[] = {0, SIZE}; /* one range: guest memory has no hole */
-    uint64_t told[REKUSOYEN_ELF_LOAD_OUT];
+    struct rekusoyen_kernel kernel;
     uint8_t *image = malloc(SIZE), *guest = calloc(SIZE, 1);
     if (image == NULL || guest == NULL)
         return 1;
@@ -28,8 +28,12 @@ int main(void)
         return 1;
     }
 
-    uint32_t answer = rekusoyen_elf_load(
-        guest, SIZE, map, 2, image, image_len, 0, 0, 0, told, REKUSOYEN_ELF_LOAD_OUT);
+    uint32_t format = rekusoyen_kind(image, image_len);
+    if (format == REKUSOYEN_UNKNOWN) {
+        fputs("example: this is neither an ELF image nor a bzImage nor an arm64 Image\n", stderr);
+        return 1;
+    }
+    uint32_t answer = rekusoyen_load(guest, SIZE, map, 2, image, image_len, format, 0, 0, 0, &kernel);
     if (answer == REKUSOYEN_ACCEPTED)
         answer = rekusoyen_line_new(line, sizeof line, 256);
     if (answer == REKUSOYEN_ACCEPTED)
@@ -42,6 +46,6 @@ int main(void)
         return 1;
     }
     printf("load %" PRIu64 ", end %" PRIu64 ", pvh %" PRIu64 " at %" PRIu64 ", line %s\n",
-           told[0], told[1], told[2], told[3], (const char *)guest + LINE_ADDRESS);
+           kernel.load, kernel.end, kernel.pvh, kernel.pvh_entry, (const char *)guest + LINE_ADDRESS);
     return 0;
 }

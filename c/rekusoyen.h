@@ -1,24 +1,32 @@
 /*
- * The proved kernel loader for C and C++: ELF images with their PVH note, bzImages, arm64 Images, and the kernel command line.
- * A program includes this header and links the static library of the crates `capi` and `capi_..`, which `tools/make-library` makes; from an
+ * The proved kernel loader for C and C++: ELF images with their PVH note, bzImages, arm64 Images, and the kernel
+ * command line. A program includes this header and links the static library that `tools/make-library` makes; from an
  * archive that `tools/dist` makes by pkg-config, `cc program.c $(pkg-config --cflags --libs rekusoyen)`.
  *
- * Answers. Every function answers REKUSOYEN_ACCEPTED or one refusal. Its comment lists its refusals in the order in which they
- * are asked, without the prefix REKUSOYEN_: the first whose condition holds is the answer. What a comment does not name as
- * changed is as it was before the call.
+ * Answers. Every function that returns a uint32_t, but rekusoyen_kind, returns REKUSOYEN_ACCEPTED or one refusal. Its
+ * comment lists its refusals in the order in which they are checked, without the prefix REKUSOYEN_: the first whose
+ * condition holds is the answer. What a comment does not name as changed is as it was before the call.
  *
- * What the caller owes. A slice is two arguments, a pointer and the count of its elements. The library trusts them:
- *   - The pointer is valid for all its elements: to read, and where it is not const to write. This is owed in a refused call too.
- *   - Where the length is 0 nothing is read or written through the pointer, and any pointer is fine, NULL too. NULL with another
- *     length is never fine.
+ * Results. A function that returns more than an answer writes it to a struct of numbers with names, or to one number.
+ * Such a function is `static inline`, over one of the same name with the prefix rekusoyen_raw_, which takes the struct
+ * as a list of its numbers with the length of the list: REKUSOYEN_.._NUMBERS, or 1. Before everything else a raw
+ * function that returns an answer refuses a list of another length with NO_ROOM; the inline functions pass the right
+ * one. The raw functions are for bindings of other languages.
+ *
+ * What the caller must ensure. A slice is two arguments, a pointer and the number of its elements. The library trusts
+ * them, in a refused call too:
+ *   - The pointer is valid for all its elements: to read, and if it is not const to write. The same is true of a
+ *     result.
+ *   - If the length is 0, nothing is read or written through the pointer, and any pointer will do, NULL too. NULL with
+ *     another length never will.
  *   - What is not const overlaps no other argument. Const arguments may overlap each other.
  *   - During the call nothing else, the guest included, writes to an argument, nor reads one that is not const.
- *   - A list of uint64_t or size_t is aligned as its element type asks. Bytes need no alignment.
- * Everything else is tested: every number, every length and every byte gets an answer.
+ *   - A list of uint64_t or size_t is aligned as its element type requires. Bytes need no alignment.
+ * Everything else is checked: every number, every length and every byte gets an answer.
  *
- * What the library does beside. It keeps nothing between calls, has no global state, allocates nothing, makes no system call,
- * and calls nothing but memcpy, memmove and memset, which the program provides. Calls may run on many threads at once, each on its
- * own buffers; const arguments may be shared.
+ * What else the library does. It keeps nothing between calls, has no global state, allocates nothing, makes no system
+ * call, and calls nothing but memcpy, memmove and memset, which the program provides. Calls may run on many threads at
+ * once, each on its own buffers; const arguments may be shared.
  */
 #ifndef REKUSOYEN_H
 #define REKUSOYEN_H
@@ -44,11 +52,11 @@ enum rekusoyen_answer {
     REKUSOYEN_INVALID_PROGRAM_HEADER_SIZE = 3,     /* e_phentsize is not 56 */
     REKUSOYEN_INVALID_PROGRAM_HEADER_OFFSET = 4,   /* e_phoff is below 64 */
     REKUSOYEN_INVALID_ENTRY_ADDRESS = 5,           /* e_entry is below the start of high memory */
-    REKUSOYEN_OVERFLOW = 6,                        /* offset + e_entry is 2^64 or more, or a note's size is above FFFFFFFC hex */
+    REKUSOYEN_OVERFLOW = 6,                        /* offset + e_entry is 2^64 or more, or a note's size is too great */
     REKUSOYEN_READ_ELF_HEADER = 7,                 /* the image has fewer than 64 bytes */
     REKUSOYEN_READ_PROGRAM_HEADER = 8,             /* the program headers pass the image */
     REKUSOYEN_INVALID_PROGRAM_HEADER_ADDRESS = 9,  /* offset + p_paddr is 2^64 or more */
-    REKUSOYEN_READ_KERNEL_IMAGE = 10,              /* a segment's bytes pass the image, or lie within no range of guest memory */
+    REKUSOYEN_READ_KERNEL_IMAGE = 10,              /* a segment's bytes pass the image, or are in no memory range */
     REKUSOYEN_READ_NOTE_HEADER = 11,               /* a note passes the image */
     REKUSOYEN_INVALID_PVH_NOTE = 12,               /* the PVH note's descriptor has fewer than 4 bytes */
     REKUSOYEN_MEMORY_OVERFLOW = 13,                /* a segment's address + p_memsz is 2^64 or more */
@@ -65,7 +73,7 @@ enum rekusoyen_answer {
     REKUSOYEN_COMMAND_LINE_OVERFLOW = 32,          /* it and its zero lie within no range of guest memory */
 
     /* a line built */
-    REKUSOYEN_INVALID_CAPACITY = 41,               /* capacity not 1 to 16384, text too long for it, or bytes that hold no line */
+    REKUSOYEN_INVALID_CAPACITY = 41,               /* capacity not 1 to 16384, text too long, or bytes of no line */
     REKUSOYEN_INVALID_ASCII = 42,                  /* a byte outside 32 to 126 */
     REKUSOYEN_HAS_SPACE = 43,                      /* a space in a key */
     REKUSOYEN_HAS_EQUALS = 44,                     /* an equals sign in a key */
@@ -79,18 +87,19 @@ enum rekusoyen_answer {
     REKUSOYEN_NO_BOOT_ARGS_INSERTED = 50,          /* init text without boot text */
     REKUSOYEN_NULL_TERMINATOR = 51,                /* a zero byte in the text */
 
-    /* limits of what is lent */
+    /* limits of the arguments */
     REKUSOYEN_SLICE_TOO_LONG = 60,                 /* an image or guest memory of more than 2^40 bytes */
-    REKUSOYEN_BAD_LIST = 61,                       /* ends that fall or of which the last is not the length of the values; part of a row,
-                                                    * or a number that does not fit its field; a state that no call wrote */
-    REKUSOYEN_NO_ROOM = 62,                        /* a buffer that has not its one size, or an output too short for the line */
+    REKUSOYEN_BAD_LIST = 61,                       /* ends that fall or do not end with the values; part of a row, or
+                                                    * a number that does not fit its field; an unknown format; a
+                                                    * state that no call wrote */
+    REKUSOYEN_NO_ROOM = 62,                        /* a buffer of a wrong size, or one too short for the line */
 
     /* a load in steps */
     REKUSOYEN_NO_BUDGET = 63,                      /* a budget of 0 */
-    REKUSOYEN_LENT_CHANGED = 64,                   /* the image's length, guest memory's or the map is not the first step's */
+    REKUSOYEN_LENT_CHANGED = 64,                   /* image length, memory size or map is not the first step's */
 
     /* a job of the desk program */
-    REKUSOYEN_BAD_JOB = 70,                        /* a job that breaks a rule: the desk program alone answers it */
+    REKUSOYEN_BAD_JOB = 70,                        /* a job that breaks a rule: only the desk program answers it */
 
     /* the words of a line */
     REKUSOYEN_UNCLOSED_QUOTE = 71,                 /* the number of quotes is odd */
@@ -99,14 +108,14 @@ enum rekusoyen_answer {
     /* the boot page */
     REKUSOYEN_BAD_PAGE_SIZE = 73,                  /* a page that has not 4096 bytes */
     REKUSOYEN_TOO_MANY_ROWS = 74,                  /* more than 128 rows */
-    REKUSOYEN_BAD_ROW = 75,                        /* a row that is empty, ends at 2^64 or above, or overlaps an earlier one */
+    REKUSOYEN_BAD_ROW = 75,                        /* a row that is empty, ends at 2^64 or above, or overlaps another */
 
     /* the PVH start block */
     REKUSOYEN_BAD_PART = 76,                       /* a part that is not in one range of guest memory, or overlaps
                                                     * another, or a list of 2^32 rows or more */
 
     /* guest memory */
-    REKUSOYEN_BAD_MAP = 77,                        /* a map that is not good: see the map of guest memory below */
+    REKUSOYEN_BAD_MAP = 77,                        /* a map that is not valid: see the map of guest memory below */
 
     /* arm64 */
     REKUSOYEN_SHORT_IMAGE = 81,                    /* an image of fewer than 64 bytes */
@@ -198,155 +207,318 @@ static inline const char *rekusoyen_answer_sentence(uint32_t answer)
 }
 
 /*
- * The stack that a call uses at the most, beside what memcpy, memmove and memset themselves use: a load of an image, its plan or a part of it, a
- * note walk, a boot page or a start block, a step of a load, and a call on a line. Measured on x86-64, a load of an image or of a line, its plan and
- * a start block, which keep the map there, use less than 1,408 bytes, a step, which hands its state on there, less than 4,480, and every other call less
- * than 640.
+ * The stack that a call uses at most, without what memcpy, memmove and memset themselves use: a load of an image, its
+ * plan or a part of it, a note walk, a boot page or a start block; a step of a load; and a call on a line. The tests of
+ * this header measure every function (c/tests/stack.c).
  */
 #define REKUSOYEN_LOAD_STACK_SIZE ((size_t)2048)
 #define REKUSOYEN_STEP_STACK_SIZE ((size_t)8192)
 #define REKUSOYEN_LINE_STACK_SIZE ((size_t)4096)
 
-/* ---- loads */
-
-/* Flags of a load: which of its two addresses are given. An address whose bit is 0 is not looked at, nor are the other bits. */
-#define REKUSOYEN_OFFSET_GIVEN 1u
-#define REKUSOYEN_HIGHMEM_GIVEN 2u
-
-/* PVH, as a load or a note walk tells it. */
-#define REKUSOYEN_PVH_IGNORED 0u     /* no note header, or an offset was given */
-#define REKUSOYEN_PVH_NOT_PRESENT 1u /* the notes have no PVH entry */
-#define REKUSOYEN_PVH_PRESENT 2u     /* the notes have one, and its address is told */
-
-/* How many places the lists of values have, and how many bytes the setup header. */
-#define REKUSOYEN_ELF_LOAD_OUT 6
-#define REKUSOYEN_ELF_NOTE_OUT 5
-#define REKUSOYEN_BZIMAGE_LOAD_OUT 2
-#define REKUSOYEN_ARM64_LOAD_OUT 2
-#define REKUSOYEN_SETUP_HEADER_SIZE 123
+/* ---- guest memory */
 
 /* The greatest length of an image and of guest memory. Texts have none. */
 #define REKUSOYEN_LONGEST_SLICE ((uint64_t)1 << 40)
 
 /*
- * Guest memory is a slice, whose first byte is at guest address 0, and a map of it: the ranges of the slice in which there is memory.
- * All else is a hole, and no call changes a byte there. A map is a list of numbers: the start of a range and its size in bytes, the start
- * and the size of the next, and so on. A map is good where
+ * Guest memory is a slice, whose first byte is at guest address 0, and a map of it: the ranges of the slice in which
+ * there is memory. All else is a hole, and no call changes a byte there. A map is a list of numbers: the start of a
+ * range and its size in bytes, the start and the size of the next, and so on. A map is valid if
  *   - it has 0 to REKUSOYEN_MAP_RANGES ranges, of two numbers each;
  *   - no range is empty, and each ends within the slice;
- *   - each begins behind the end of the one before, with a byte or more between them: ranges that touch are one range.
- * Guest memory without holes has the one range of start 0 and size guest_len, and no range where guest_len is 0. No range over a slice
- * that is not empty is a good map, too, in which nothing has room.
+ *   - each begins after the end of the one before, with a byte or more between them: ranges that touch are one range.
+ * Guest memory without holes has the one range of start 0 and size guest_len, and no range if guest_len is 0. No range
+ * over a slice that is not empty is a valid map, too, in which nothing has room.
  *
- * Bytes have room at an address where all of them lie within one range.
+ * Bytes have room at an address if all of them are within one range.
  */
 #define REKUSOYEN_MAP_RANGES 16
 
+/* ---- loads */
+
+/* The formats of an image. */
+#define REKUSOYEN_UNKNOWN 0u
+#define REKUSOYEN_ELF 1u
+#define REKUSOYEN_BZIMAGE 2u
+#define REKUSOYEN_ARM64 3u
+
+/* Flags of a load: which of its two addresses are given. Other bits, and addresses not given, are not looked at. */
+#define REKUSOYEN_OFFSET_GIVEN 1u
+#define REKUSOYEN_HIGHMEM_GIVEN 2u
+
+/* PVH, as a load or a note walk returns it. */
+#define REKUSOYEN_PVH_IGNORED 0u     /* no note header, or an offset was given; every bzImage and arm64 Image */
+#define REKUSOYEN_PVH_NOT_PRESENT 1u /* the notes have no PVH entry */
+#define REKUSOYEN_PVH_PRESENT 2u     /* the notes have one, and its address is returned */
+
+/* What an accepted load returns. */
+#define REKUSOYEN_KERNEL_NUMBERS 6
+struct rekusoyen_kernel {
+    uint64_t load;       /* the load address */
+    uint64_t end;        /* the kernel's end */
+    uint64_t pvh;        /* the PVH code; if it is not REKUSOYEN_PVH_PRESENT, the next three are 0 */
+    uint64_t pvh_entry;  /* the PVH address */
+    uint64_t pvh_offset; /* the offset in the image of the descriptor that it was read from */
+    uint64_t pvh_size;   /* the size of that descriptor, as its note header has it */
+};
+
 /*
- * Loads an ELF image into guest memory.
+ * The three formats. Each says what offset and highmem mean if they are given, what a load returns, which refusals it
+ * has after those that all loads have, its parts, which are the image bytes that it copies, and its footprint: the only
+ * image bytes that its plan depends on, as far as the image goes. Every number in an image has its least byte first.
  *
- *   guest    guest memory, its first byte at guest address 0
- *   map      its ranges
- *   image    the whole file
- *   flags    which of offset and highmem are given
- *   offset   where given, it is added to every segment's p_paddr and to the load address
- *   highmem  where given, the image's e_entry, before the offset is added, must not lie below it
- *   out      REKUSOYEN_ELF_LOAD_OUT places: the load address (e_entry, plus the offset); the kernel's end (the greatest
- *            address + p_memsz of the loadable segments, 0 without any; it may lie past guest memory); the PVH code;
- *            the PVH address; and the place in the image and the size of the descriptor that it was read from. The last three are
- *            0 where PVH is not present or ignored
+ * REKUSOYEN_ELF
+ *   offset     is added to every segment's p_paddr and to the load address
+ *   highmem    e_entry, before the offset is added, must not be below it
+ *   load       e_entry, plus the offset
+ *   end        the greatest address + p_memsz of the loadable segments, 0 without any; it may be past guest memory
+ *   pvh        of all program headers of type 4 (notes), in file order, the first PVH entry that rekusoyen_elf_note
+ *              finds in the p_filesz bytes at p_offset. Note headers after it are still walked, and may refuse the
+ *              load, but change nothing else. If none has an entry PVH is not present. Without a note header, or if an
+ *              offset is given, PVH is ignored, and no notes are walked
+ *   refusals   READ_ELF_HEADER                   image_len is below 64
+ *              INVALID_ELF_MAGIC_NUMBER, BIG_ENDIAN_ELF_ON_LITTLE, INVALID_PROGRAM_HEADER_SIZE,
+ *              INVALID_PROGRAM_HEADER_OFFSET
+ *              INVALID_ENTRY_ADDRESS             highmem is given, and e_entry is below it
+ *              OVERFLOW                          offset + e_entry is 2^64 or more
+ *              READ_PROGRAM_HEADER               e_phnum is above 0, and the program headers pass the image
+ *              and then of each program header in turn, of a loadable one that is not empty in both sizes:
+ *              INVALID_PROGRAM_HEADER_FILE_SIZE  p_filesz is above p_memsz
+ *              INVALID_PROGRAM_HEADER_ADDRESS    offset + p_paddr is 2^64 or more
+ *              READ_KERNEL_IMAGE                 p_filesz is above 0, and its bytes pass the image, or have no room
+ *              MEMORY_OVERFLOW                   its address + p_memsz is 2^64 or more
+ *              and of one with notes, if no offset is given: READ_NOTE_HEADER, OVERFLOW and INVALID_PVH_NOTE as of
+ *              rekusoyen_elf_note
+ *   parts      one for each program header, in file order. That of type 1 (loadable) with p_filesz above 0 is its
+ *              p_filesz bytes, which go to p_paddr plus the offset; guest memory after them, up to p_memsz, is not
+ *              cleared. One of type 1 with p_filesz 0 and p_memsz above 0 is memory only: it counts for the kernel's
+ *              end, nothing is copied, and guest memory need not have it. All others have no bytes
+ *   footprint  0 to 63; the program headers, e_phnum times 56 bytes from e_phoff on; and, if no offset is given, of
+ *              each program header of type 4 with p_filesz above 0 the p_filesz + 19 bytes from p_offset on. A note
+ *              begins within its p_filesz bytes, and of a note 20 bytes are looked at: its header, its name and the
+ *              first 4 bytes of its descriptor
+ *   time       grows with the bytes that are copied, with the program headers, and with the note headers that are
+ *              looked at. These can be many more than the image has: every program header of type 4 is walked, and all
+ *              may be over the same notes. One walk looks at (p_filesz + 11) / 12 note headers at most, a load at 65535
+ *              times as many; an image of 4 MiB can make it look at 2,863 million, which can take half a minute
+ *              (docs/SPEED.md). A program that takes untrusted images can set a limit before the load: read the program
+ *              headers, add up p_filesz over those of type 4, and refuse an image whose sum is above it. A Linux kernel
+ *              has one such header, of some hundred bytes; with a limit of 1 MiB a load looks at 147,455 note headers
+ *              at most. A load in steps looks at all of them in its first step
  *
- * Program headers are taken in file order. One of type 1 (loadable) with p_filesz above 0 has its p_filesz bytes copied to
- * its address, p_paddr plus the offset; guest memory after them, up to p_memsz, is not cleared. One of type 1 with p_filesz 0 and
- * p_memsz above 0 is memory alone: it counts for the kernel's end, nothing is copied, and guest memory need not have it. One that
- * is empty in both sizes is skipped. One of type 4 (notes) is walked by rekusoyen_elf_note, its p_filesz bytes at p_offset, unless an
- * offset is given. The first PVH entry found holds: note headers behind it are still walked, and may refuse the load, but change
- * nothing else. Where none has an entry PVH is not present; without a note header, or with an offset, it is ignored. All others are
- * skipped.
+ * REKUSOYEN_BZIMAGE. The setup has setup_sects sectors (0 means 4) and one more, of 512 bytes each. All image bytes
+ * after it are the kernel. Image bytes past the end count as 0 if the setup header is read from there.
+ *   offset     is the load address, in place of the image's code32_start
+ *   highmem    the image's code32_start must not be below it, whatever the offset is
+ *   load       code32_start, or the offset
+ *   end        the load address + the kernel's size
+ *   refusals   INVALID_BZ_IMAGE                 the 4 bytes at 202 hex are not HdrS, or the version at 206 hex is below
+ *                                               0200 hex, or bit 0 of loadflags at 211 hex is 0
+ *              UNDERFLOW                        the image is shorter than its setup
+ *              INVALID_KERNEL_START_ADDRESS     highmem is given, and code32_start is below it
+ *              READ_BZ_IMAGE_COMPRESSED_KERNEL  the kernel has a byte or more, and has no room at the load address
+ *   parts      one: the kernel, which goes to the load address
+ *   footprint  1F1 hex to 26B hex, the setup header
+ * rekusoyen_setup_header gives the setup header that a boot page needs.
+ *
+ * REKUSOYEN_ARM64. The file, not compressed, goes whole, with its header, to base + text offset. The header has 64
+ * bytes: the text offset at 8, the image size at 16 and the flags at 24, 8 bytes each, and the magic number at 56, 4
+ * bytes.
+ *   offset     is the base, a multiple of 2 MiB; the base is 0 if it is not given
+ *   highmem    is not looked at
+ *   load       base + text offset
+ *   end        the load address + the image size, where the memory ends that the kernel needs. It may be past guest
+ *              memory, and below the file's last byte
+ *   refusals   SHORT_IMAGE        image_len is below 64
+ *              BAD_IMAGE_MAGIC    the magic number is not 644D5241 hex
+ *              BIG_ENDIAN_IMAGE   bit 0 of the flags is 1; no other bit is looked at
+ *              NO_IMAGE_SIZE      the image size is 0
+ *              UNALIGNED_BASE     base is not a multiple of 2 MiB
+ *              IMAGE_START_WRAPS  base + text offset is 2^64 or more
+ *              NO_ROOM_FOR_IMAGE  the file's bytes have no room at the load address
+ *              IMAGE_END_WRAPS    base + text offset + image size is 2^64 or more
+ *   parts      one: the whole file. Memory after it, up to the image size, is not cleared
+ *   footprint  0 to 63
+ */
+
+/*
+ * The format of an image by its magic number: REKUSOYEN_ELF if it begins with 7F hex and ELF; else REKUSOYEN_BZIMAGE if
+ * HdrS is at 202 hex; else REKUSOYEN_ARM64 if the number at 56 is 644D5241 hex; else REKUSOYEN_UNKNOWN. Nothing else is
+ * checked, and nothing is refused: a load may still refuse the image.
+ */
+uint32_t rekusoyen_kind(const uint8_t *image, size_t image_len);
+
+/*
+ * Loads an image into guest memory: copies its parts, in their order.
+ *
+ *   guest            guest memory, its first byte at guest address 0
+ *   map              its ranges
+ *   image            the whole file
+ *   format           of the image: a load does not guess it
+ *   flags            which of offset and highmem are given
+ *   offset, highmem  as the format has it
+ *   kernel           the result
  *
  * Refusals:
- *   NO_ROOM                           out_len is not REKUSOYEN_ELF_LOAD_OUT
- *   SLICE_TOO_LONG                    image_len or guest_len is above REKUSOYEN_LONGEST_SLICE
- *   BAD_MAP                           the map is not good
- *   READ_ELF_HEADER                   image_len is below 64
- *   INVALID_ELF_MAGIC_NUMBER, BIG_ENDIAN_ELF_ON_LITTLE, INVALID_PROGRAM_HEADER_SIZE, INVALID_PROGRAM_HEADER_OFFSET
- *   INVALID_ENTRY_ADDRESS             highmem is given, and e_entry is below it
- *   OVERFLOW                          offset + e_entry is 2^64 or more
- *   READ_PROGRAM_HEADER               e_phnum is above 0, and the program headers pass the image
- * and then of each program header in turn, of a loadable one that is not empty in both sizes:
- *   INVALID_PROGRAM_HEADER_FILE_SIZE  p_filesz is above p_memsz
- *   INVALID_PROGRAM_HEADER_ADDRESS    offset + p_paddr is 2^64 or more
- *   READ_KERNEL_IMAGE                 p_filesz is above 0, and its bytes pass the image, or have no room at their address
- *   MEMORY_OVERFLOW                   its address + p_memsz is 2^64 or more
- * and of one with notes, where no offset is given: READ_NOTE_HEADER, OVERFLOW and INVALID_PVH_NOTE as of rekusoyen_elf_note.
+ *   BAD_LIST        the format is none of the three
+ *   SLICE_TOO_LONG  image_len or guest_len is above REKUSOYEN_LONGEST_SLICE
+ *   BAD_MAP         the map is not valid
+ * and then those of the format.
  *
- * Leaves, accepted: in guest the bytes of every segment that is loaded, a later one over an earlier; in out the six values.
- * Leaves, refused: out and guest as they were. Nothing is written before every program header has passed.
- *
- * Time grows with the bytes that are copied, with the program headers, and with the note headers that are looked at. These can be many more than the
- * image has: every program header of type 4 is walked, and all may be over the same notes. One walk looks at (p_filesz + 11) / 12 note headers at the
- * most, a load at 65535 times as many; an image of 4 MiB can make it look at 2,863 million, which can take half a minute (docs/SPEED.md). A program that takes
- * images from strangers can set itself a limit before the load: read the program headers, add up p_filesz over those of type 4, and refuse an image
- * whose sum is above it. A Linux kernel has one such header, of some hundred bytes; with a limit of 1 MiB a load looks at 147,455 note headers at the
- * most. With an offset given no notes are walked. A load in steps looks at all of them in its first step.
+ * Leaves, accepted: in guest the bytes of every part, a later one over an earlier; in kernel the result. Leaves,
+ * refused: guest and kernel as they were. Nothing is copied before the whole load is accepted.
  */
-uint32_t rekusoyen_elf_load(
+uint32_t rekusoyen_raw_load(
+    uint8_t *guest, size_t guest_len, const uint64_t *map, size_t map_len, const uint8_t *image, size_t image_len,
+    uint32_t format, uint32_t flags, uint64_t offset, uint64_t highmem, uint64_t *kernel, size_t kernel_len);
+static inline uint32_t rekusoyen_load(
     uint8_t *guest, size_t guest_len,
     const uint64_t *map, size_t map_len,
     const uint8_t *image, size_t image_len,
-    uint32_t flags, uint64_t offset, uint64_t highmem,
-    uint64_t *out, size_t out_len);
+    uint32_t format, uint32_t flags, uint64_t offset, uint64_t highmem,
+    struct rekusoyen_kernel *kernel)
+{
+    return rekusoyen_raw_load(
+        guest, guest_len, map, map_len, image, image_len, format, flags, offset, highmem,
+        (uint64_t *)kernel, REKUSOYEN_KERNEL_NUMBERS);
+}
 
 /*
- * A load of an ELF image in steps, each with a budget of bytes: rekusoyen_elf_begin writes the state of a load that is not begun, and each call of
- * rekusoyen_elf_step copies at most its budget. The state is the caller's, a list of REKUSOYEN_ELF_STATE numbers; the library keeps nothing else. It may be
- * copied, and the load goes on from the copy.
+ * The plan of a load: what the load would answer, and how many parts it has. No guest memory is passed, only its size
+ * and its map: a program whose guest memory is not one slice, or whose image is not in memory, copies the parts itself.
+ * Copied one after the other, in the order of their indices, the parts of an accepted load leave guest memory as the
+ * load leaves it. Every part is in the image, and in one range of guest memory. A refused load copies nothing.
+ *
+ *   memory_size  how many bytes guest memory has; of memory in regions, the end of the last one
+ *   image        the whole file, or as many bytes, of which only those of the footprint matter: two images of one
+ *                length with the same bytes there have the same plan and the same parts
+ *   plan         the result
+ * All others as of rekusoyen_load.
+ *
+ * Refusals: those of rekusoyen_load, with memory_size in place of guest_len.
+ *
+ * Leaves, accepted: in plan the result. Leaves, refused: plan as it was.
  */
-#define REKUSOYEN_ELF_STATE 49
-#define REKUSOYEN_ELF_STEP_OUT 9
+#define REKUSOYEN_PLAN_NUMBERS 7
+struct rekusoyen_plan {
+    struct rekusoyen_kernel kernel; /* what the load would return */
+    uint64_t parts;                 /* the number of its parts */
+};
+uint32_t rekusoyen_raw_plan(
+    uint64_t memory_size, const uint64_t *map, size_t map_len, const uint8_t *image, size_t image_len, uint32_t format,
+    uint32_t flags, uint64_t offset, uint64_t highmem, uint64_t *plan, size_t plan_len);
+static inline uint32_t rekusoyen_plan(
+    uint64_t memory_size,
+    const uint64_t *map, size_t map_len,
+    const uint8_t *image, size_t image_len,
+    uint32_t format, uint32_t flags, uint64_t offset, uint64_t highmem,
+    struct rekusoyen_plan *plan)
+{
+    return rekusoyen_raw_plan(
+        memory_size, map, map_len, image, image_len, format, flags, offset, highmem,
+        (uint64_t *)plan, REKUSOYEN_PLAN_NUMBERS);
+}
 
 /*
- * Begins a load: writes its state, over whatever the list held. Flags, offset and highmem are those of rekusoyen_elf_load.
+ * A part of a load, by its index. Only the plan says whether the load is accepted: highmem is not passed here, and a
+ * part of a refused load is not to be copied.
  *
  * Refusals:
- *   NO_ROOM  state_len is not REKUSOYEN_ELF_STATE
+ *   BAD_LIST  the format is none of the three
+ *
+ * Leaves, accepted: in part the result, which is all 0 if the part has no bytes, and if index is not below the number
+ * of parts. Leaves, refused: part as it was.
  */
-uint32_t rekusoyen_elf_begin(
-    uint64_t *state, size_t state_len,
-    uint32_t flags, uint64_t offset, uint64_t highmem);
+#define REKUSOYEN_PART_NUMBERS 3
+struct rekusoyen_part {
+    uint64_t address; /* in guest memory */
+    uint64_t offset;  /* in the image */
+    uint64_t size;
+};
+uint32_t rekusoyen_raw_part(
+    uint64_t memory_size, const uint64_t *map, size_t map_len, const uint8_t *image, size_t image_len, uint32_t format,
+    uint32_t flags, uint64_t offset, uint64_t index, uint64_t *part, size_t part_len);
+static inline uint32_t rekusoyen_part(
+    uint64_t memory_size,
+    const uint64_t *map, size_t map_len,
+    const uint8_t *image, size_t image_len,
+    uint32_t format, uint32_t flags, uint64_t offset, uint64_t index,
+    struct rekusoyen_part *part)
+{
+    return rekusoyen_raw_part(
+        memory_size, map, map_len, image, image_len, format, flags, offset, index,
+        (uint64_t *)part, REKUSOYEN_PART_NUMBERS);
+}
 
 /*
- * A step of a load: copies exactly the smaller of its budget and what is still to be written, segments in file order and each from its first byte.
- * Headers and notes cost nothing; the first step looks at all of them before it copies anything, and a load that is refused copies nothing.
+ * Begins a load in steps, each with a budget of bytes: writes the state of a load that has not started, over whatever
+ * the numbers held. The state is the caller's; the library keeps nothing else. It may be copied, and the load continues
+ * from the copy. Format, flags, offset and highmem are those of rekusoyen_load, and the state keeps them.
  *
- *   guest, map, image  as of rekusoyen_elf_load; their lengths and the map are the same in every step
- *   state              what rekusoyen_elf_begin or the last step wrote
+ * Refusals:
+ *   BAD_LIST  the format is none of the three
+ *
+ * Leaves, refused: state as it was.
+ */
+#define REKUSOYEN_STATE_NUMBERS 50
+struct rekusoyen_state {
+    uint64_t numbers[REKUSOYEN_STATE_NUMBERS];
+};
+uint32_t rekusoyen_raw_begin(
+    uint64_t *state, size_t state_len, uint32_t format, uint32_t flags, uint64_t offset, uint64_t highmem);
+static inline uint32_t rekusoyen_begin(
+    struct rekusoyen_state *state, uint32_t format, uint32_t flags, uint64_t offset, uint64_t highmem)
+{
+    return rekusoyen_raw_begin(state->numbers, REKUSOYEN_STATE_NUMBERS, format, flags, offset, highmem);
+}
+
+/*
+ * A step of a load: copies exactly the smaller of its budget and what is still to be written, parts in their order and
+ * each from its first byte. Headers and notes cost nothing; the first step looks at all of them before it copies
+ * anything, and a load that is refused copies nothing.
+ *
+ *   guest, map, image  as of rekusoyen_load; their lengths and the map are the same in every step
+ *   state              what rekusoyen_begin or the last step wrote
  *   budget             how many bytes may be copied
- *   out                REKUSOYEN_ELF_STEP_OUT places: the bytes copied; 1 where the load answers, and else 0; the answer's number, 0 where the
- *                      load is accepted or has not answered; and the six values of rekusoyen_elf_load, 0 where it is not accepted
+ *   step               the result
  *
- * The load answers in the first step at which the budgets add up to all bytes that rekusoyen_elf_load would write, and its answer is that of
- * rekusoyen_elf_load. Each step after that repeats the answer and copies nothing. Between two steps guest memory is as rekusoyen_elf_load would have
- * left it after as many bytes. Where the image's bytes change between steps, or somebody else writes to guest memory, a step still copies no
- * more than its budget and changes no byte in a hole; what it copies is then not what rekusoyen_elf_load would have.
+ * The load answers in the first step at which the budgets add up to all bytes that rekusoyen_load would write, and its
+ * answer is that of rekusoyen_load. Each step after that repeats the answer and copies nothing. Between two steps guest
+ * memory is as rekusoyen_load would have left it after as many bytes. If the image's bytes change between steps, or
+ * someone else writes to guest memory, a step still copies no more than its budget and changes no byte in a hole; what
+ * it copies is then not what rekusoyen_load would have.
  *
  * Refusals of the call, which is then no step:
- *   NO_ROOM         state_len is not REKUSOYEN_ELF_STATE, or out_len is not REKUSOYEN_ELF_STEP_OUT
- *   BAD_LIST        the state holds a number that no call writes at its place: no stage, no option, no PVH code or no answer
+ *   BAD_LIST        the state holds a number that no call writes there: no stage, option, format, PVH code or answer
  *   SLICE_TOO_LONG  image_len or guest_len is above REKUSOYEN_LONGEST_SLICE
- *   BAD_MAP         the map is not good
+ *   BAD_MAP         the map is not valid
  *   NO_BUDGET       the budget is 0
  *   LENT_CHANGED    image_len, guest_len or the map is not the first step's
  *
- * Leaves, accepted: in guest the bytes copied, in state the new state, in out the nine values. Leaves, refused: all as it was.
+ * Leaves, accepted: in guest the bytes copied, in state the new state, in step the result. Leaves, refused: all as it
+ * was.
  */
-uint32_t rekusoyen_elf_step(
+#define REKUSOYEN_STEP_NUMBERS 9
+struct rekusoyen_step {
+    uint64_t copied;                /* how many bytes this step copied */
+    uint64_t answered;              /* 1 if the load answers, else 0 */
+    uint64_t answer;                /* the load's answer; 0 if it has not answered */
+    struct rekusoyen_kernel kernel; /* what the load returns; all 0 if it is not accepted or has not answered */
+};
+uint32_t rekusoyen_raw_step(
+    uint8_t *guest, size_t guest_len, const uint64_t *map, size_t map_len, const uint8_t *image, size_t image_len,
+    uint64_t *state, size_t state_len, uint64_t budget, uint64_t *step, size_t step_len);
+static inline uint32_t rekusoyen_step(
     uint8_t *guest, size_t guest_len,
     const uint64_t *map, size_t map_len,
     const uint8_t *image, size_t image_len,
-    uint64_t *state, size_t state_len,
-    uint64_t budget,
-    uint64_t *out, size_t out_len);
+    struct rekusoyen_state *state, uint64_t budget,
+    struct rekusoyen_step *step)
+{
+    return rekusoyen_raw_step(
+        guest, guest_len, map, map_len, image, image_len, state->numbers, REKUSOYEN_STATE_NUMBERS, budget,
+        (uint64_t *)step, REKUSOYEN_STEP_NUMBERS);
+}
 
 /*
  * Walks over the notes of an ELF image until the one that holds the PVH entry: type 18, and the name `Xen` and a zero.
@@ -354,283 +526,76 @@ uint32_t rekusoyen_elf_step(
  *   image     the whole file
  *   p_offset  where in the image the notes begin
  *   p_filesz  their size: a note that begins within it is read, as far as the image goes
- *   out       REKUSOYEN_ELF_NOTE_OUT places: the PVH code (not present or present); the PVH address; how many note headers were
- *             read, at most one for each twelve bytes begun of p_filesz; and the place in the image and the size of the
- *             descriptor found, as its note header has it. Address, place and size are 0 where PVH is not present
+ *   note      the result
  *
  * Refusals:
- *   NO_ROOM           out_len is not REKUSOYEN_ELF_NOTE_OUT
  *   SLICE_TOO_LONG    image_len is above REKUSOYEN_LONGEST_SLICE
  * and then of each note in turn:
- *   READ_NOTE_HEADER  its header of 12 bytes passes the image; or its name does, where its type is 18 and its name size 4
+ *   READ_NOTE_HEADER  its header of 12 bytes passes the image; or its name does, if its type is 18 and its name size 4
  *   OVERFLOW          it is not the PVH note, and its name size or its descriptor size is above FFFFFFFC hex
  * and of the PVH note:
  *   INVALID_PVH_NOTE  its descriptor size is below 4
  *   READ_NOTE_HEADER  the first 4 bytes of its descriptor pass the image
  *
- * Leaves, accepted: in out the five values. Leaves, refused: out as it was.
+ * Leaves, accepted: in note the result. Leaves, refused: note as it was.
  */
-uint32_t rekusoyen_elf_note(
+#define REKUSOYEN_NOTE_NUMBERS 5
+struct rekusoyen_note {
+    uint64_t pvh;        /* REKUSOYEN_PVH_NOT_PRESENT or REKUSOYEN_PVH_PRESENT */
+    uint64_t pvh_entry;  /* as in struct rekusoyen_kernel, and the last two */
+    uint64_t headers;    /* how many note headers were read, at most one for each twelve bytes begun of p_filesz */
+    uint64_t pvh_offset;
+    uint64_t pvh_size;
+};
+uint32_t rekusoyen_raw_elf_note(
+    const uint8_t *image, size_t image_len, uint64_t p_offset, uint64_t p_filesz, uint64_t *note, size_t note_len);
+static inline uint32_t rekusoyen_elf_note(
     const uint8_t *image, size_t image_len,
     uint64_t p_offset, uint64_t p_filesz,
-    uint64_t *out, size_t out_len);
+    struct rekusoyen_note *note)
+{
+    return rekusoyen_raw_elf_note(image, image_len, p_offset, p_filesz, (uint64_t *)note, REKUSOYEN_NOTE_NUMBERS);
+}
 
 /*
- * Loads the kernel of a bzImage into guest memory. Image bytes past its end count as 0 where the setup header is read.
+ * The setup header of a bzImage, for a kernel that is loaded at an address. It is read from any image: whether this is
+ * a bzImage is not checked.
  *
- *   guest    guest memory, its first byte at guest address 0
- *   map      its ranges
- *   image    the whole file
- *   flags    which of offset and highmem are given
- *   offset   where given, it is the load address, in place of the image's code32_start
- *   highmem  where given, the image's code32_start must not lie below it, whatever the offset is
- *   out      REKUSOYEN_BZIMAGE_LOAD_OUT places: the load address, and the kernel's end (the load address + the kernel's size)
- *   header   REKUSOYEN_SETUP_HEADER_SIZE bytes: the setup header
- *
- * The setup has setup_sects sectors (0 means 4) and one more, of 512 bytes each. All image bytes after it are the kernel.
+ *   image   the whole file
+ *   load    the load address that rekusoyen_load, rekusoyen_plan or rekusoyen_step returned
+ *   header  REKUSOYEN_SETUP_HEADER_SIZE bytes
  *
  * Refusals:
- *   NO_ROOM                         out_len is not REKUSOYEN_BZIMAGE_LOAD_OUT, or header_len is not REKUSOYEN_SETUP_HEADER_SIZE
- *   SLICE_TOO_LONG                  image_len or guest_len is above REKUSOYEN_LONGEST_SLICE
- *   BAD_MAP                         the map is not good
- *   INVALID_BZ_IMAGE                the 4 bytes at 202 hex are not HdrS, or the version at 206 hex is below 0200 hex, or bit 0
- *                                   of loadflags at 211 hex is 0
- *   UNDERFLOW                       the image is shorter than its setup
- *   INVALID_KERNEL_START_ADDRESS    highmem is given, and code32_start is below it
- *   READ_BZ_IMAGE_COMPRESSED_KERNEL the kernel has a byte or more, and has no room at the load address
+ *   NO_ROOM         header_len is not REKUSOYEN_SETUP_HEADER_SIZE
+ *   SLICE_TOO_LONG  image_len is above REKUSOYEN_LONGEST_SLICE
  *
- * Leaves, accepted: in guest the kernel from the load address on (nothing where it has no bytes); in out the two values; in
- * header the bytes of the image from 1F1 hex on, but in code32_start the low 32 bits of the load address, least byte first.
- * Leaves, refused: guest, out and header as they were.
+ * Leaves, accepted: in header the bytes of the image from 1F1 hex on, 0 past its end, but in code32_start, at 214 hex
+ * of the image, the low 32 bits of the load address, least byte first. Leaves, refused: header as it was.
  */
-uint32_t rekusoyen_bzimage_load(
-    uint8_t *guest, size_t guest_len,
-    const uint64_t *map, size_t map_len,
+#define REKUSOYEN_SETUP_HEADER_SIZE 123
+uint32_t rekusoyen_setup_header(
     const uint8_t *image, size_t image_len,
-    uint32_t flags, uint64_t offset, uint64_t highmem,
-    uint64_t *out, size_t out_len,
+    uint64_t load,
     uint8_t *header, size_t header_len);
-
-/*
- * A load of a bzImage in steps. Its state is a list of REKUSOYEN_BZIMAGE_STATE numbers and REKUSOYEN_SETUP_HEADER_SIZE bytes, which hold the setup header
- * once the load is accepted and zeros before. All else is as of rekusoyen_elf_begin and rekusoyen_elf_step.
- */
-#define REKUSOYEN_BZIMAGE_STATE 45
-#define REKUSOYEN_BZIMAGE_STEP_OUT 5
-
-/*
- * Begins a load. Flags, offset and highmem are those of rekusoyen_bzimage_load.
- *
- * Refusals:
- *   NO_ROOM  state_len is not REKUSOYEN_BZIMAGE_STATE, or header_len is not REKUSOYEN_SETUP_HEADER_SIZE
- */
-uint32_t rekusoyen_bzimage_begin(
-    uint64_t *state, size_t state_len,
-    uint8_t *header, size_t header_len,
-    uint32_t flags, uint64_t offset, uint64_t highmem);
-
-/*
- * A step of a load.
- *
- *   out  REKUSOYEN_BZIMAGE_STEP_OUT places: the bytes copied; 1 where the load answers, and else 0; the answer's number, 0 where the load is
- *        accepted or has not answered; and the two values of rekusoyen_bzimage_load, 0 where it is not accepted
- *
- * Refusals of the call, which is then no step: NO_ROOM for state_len, header_len and out_len, then those of rekusoyen_elf_step.
- */
-uint32_t rekusoyen_bzimage_step(
-    uint8_t *guest, size_t guest_len,
-    const uint64_t *map, size_t map_len,
-    const uint8_t *image, size_t image_len,
-    uint64_t *state, size_t state_len,
-    uint8_t *header, size_t header_len,
-    uint64_t budget,
-    uint64_t *out, size_t out_len);
-
-/*
- * Loads an arm64 Image into guest memory: the whole file, header and all, to base + text offset.
- *
- *   guest  guest memory, its first byte at guest address 0
- *   map    its ranges
- *   image  the whole file, not compressed
- *   base   where the file goes, but for the text offset that its header names; a multiple of 2 MiB
- *   out    REKUSOYEN_ARM64_LOAD_OUT places: base + text offset; and that address + the image size, where the memory ends that the kernel
- *          asks for. It may lie past guest memory, and below the file's last byte
- *
- * The header has 64 bytes: the text offset at 8, the image size at 16 and the flags at 24, 8 bytes each, and the magic number at 56, 4 bytes.
- * Every number has its least byte first.
- *
- * Refusals:
- *   NO_ROOM            out_len is not REKUSOYEN_ARM64_LOAD_OUT
- *   SLICE_TOO_LONG     image_len or guest_len is above REKUSOYEN_LONGEST_SLICE
- *   BAD_MAP            the map is not good
- *   SHORT_IMAGE        image_len is below 64
- *   BAD_IMAGE_MAGIC    the magic number is not 644D5241 hex
- *   BIG_ENDIAN_IMAGE   bit 0 of the flags is 1; no other bit is looked at
- *   NO_IMAGE_SIZE      the image size is 0
- *   UNALIGNED_BASE     base is not a multiple of 2 MiB
- *   IMAGE_START_WRAPS  base + text offset is 2^64 or more
- *   NO_ROOM_FOR_IMAGE  the file's bytes have no room there
- *   IMAGE_END_WRAPS    base + text offset + image size is 2^64 or more
- *
- * Leaves, accepted: in guest the file from base + text offset on; in out the two values. Memory behind the file, up to the image size, is not
- * cleared. Leaves, refused: guest and out as they were.
- */
-uint32_t rekusoyen_arm64_load(
-    uint8_t *guest, size_t guest_len,
-    const uint64_t *map, size_t map_len,
-    const uint8_t *image, size_t image_len,
-    uint64_t base,
-    uint64_t *out, size_t out_len);
-
-/*
- * A load of an arm64 Image in steps. Its state is a list of REKUSOYEN_ARM64_STATE numbers. All else is as of rekusoyen_elf_begin and
- * rekusoyen_elf_step.
- */
-#define REKUSOYEN_ARM64_STATE 45
-#define REKUSOYEN_ARM64_STEP_OUT 5
-
-/*
- * Begins a load. The base is that of rekusoyen_arm64_load.
- *
- * Refusals:
- *   NO_ROOM  state_len is not REKUSOYEN_ARM64_STATE
- */
-uint32_t rekusoyen_arm64_begin(uint64_t *state, size_t state_len, uint64_t base);
-
-/*
- * A step of a load.
- *
- *   out  REKUSOYEN_ARM64_STEP_OUT places: the bytes copied; 1 where the load answers, and else 0; the answer's number, 0 where the load is
- *        accepted or has not answered; and the two values of rekusoyen_arm64_load, 0 where it is not accepted
- *
- * Refusals of the call, which is then no step: NO_ROOM for state_len and out_len, then those of rekusoyen_elf_step.
- */
-uint32_t rekusoyen_arm64_step(
-    uint8_t *guest, size_t guest_len,
-    const uint64_t *map, size_t map_len,
-    const uint8_t *image, size_t image_len,
-    uint64_t *state, size_t state_len,
-    uint64_t budget,
-    uint64_t *out, size_t out_len);
-
-/* ---- plans and parts */
-
-/*
- * The plan of a load: what the load would answer, and which image bytes it would copy to which guest addresses. No guest memory is lent, only its
- * size and its map: a program whose guest memory is no slice, or whose image is not in memory, copies the parts by itself. Copied one after the other,
- * in the order of their numbers, the parts of an accepted load leave guest memory as the load leaves it. Every part lies in the image, and in
- * one range of guest memory. A refused load copies nothing.
- *
- *   memory_size  how many bytes guest memory has; of memory in regions, the end of the last one
- *   map          its ranges
- *   image        the whole file, or as many bytes, of which these alone are looked at, as far as the image goes:
- *                  - of an ELF image 0 to 63; the program headers, e_phnum times 56 bytes from e_phoff on; and, where no offset is given, of each program
- *                    header of type 4 with p_filesz above 0 the p_filesz + 19 bytes from p_offset on. A note begins within its p_filesz bytes, and of
- *                    a note 20 bytes are looked at: its header, its name and the first 4 bytes of its descriptor
- *                  - of a bzImage 1F1 hex to 26B hex, the setup header
- *                  - of an arm64 Image 0 to 63
- *                All others may have any value: two images of one length with the same bytes at these places have the same plan
- *
- * A part is three numbers: its guest address, its place in the image, and its size; all 0 where it has no bytes.
- */
-#define REKUSOYEN_ELF_PLAN_OUT 7
-#define REKUSOYEN_ELF_PART_OUT 3
-#define REKUSOYEN_BZIMAGE_PLAN_OUT 5
-#define REKUSOYEN_ARM64_PLAN_OUT 5
-
-/*
- * The plan of a load of an ELF image.
- *
- *   flags, offset, highmem  those of rekusoyen_elf_load
- *   out                     REKUSOYEN_ELF_PLAN_OUT places: the six values of rekusoyen_elf_load, and the number of parts, one for each program header
- *
- * Refusals: NO_ROOM where out_len is not REKUSOYEN_ELF_PLAN_OUT; then all of rekusoyen_elf_load from SLICE_TOO_LONG on, with memory_size in place of
- * guest_len.
- *
- * Leaves, accepted: in out the seven values. Leaves, refused: out as it was.
- */
-uint32_t rekusoyen_elf_plan(
-    uint64_t memory_size,
-    const uint64_t *map, size_t map_len,
-    const uint8_t *image, size_t image_len,
-    uint32_t flags, uint64_t offset, uint64_t highmem,
-    uint64_t *out, size_t out_len);
-
-/*
- * A part of that load, by its number: that of program header `index`, in file order. Whether the load is accepted is the plan's to say: highmem is not
- * asked here, and a refused load has parts that are told but not copied.
- *
- *   out  REKUSOYEN_ELF_PART_OUT places: the part; all 0 from the number of parts on, too
- *
- * Refusals:
- *   NO_ROOM  out_len is not REKUSOYEN_ELF_PART_OUT
- *
- * Leaves, accepted: in out the three values. Leaves, refused: out as it was.
- */
-uint32_t rekusoyen_elf_part(
-    uint64_t memory_size,
-    const uint64_t *map, size_t map_len,
-    const uint8_t *image, size_t image_len,
-    uint32_t flags, uint64_t offset, uint64_t index,
-    uint64_t *out, size_t out_len);
-
-/*
- * The plan of a load of a bzImage, and its one part.
- *
- *   flags, offset, highmem  those of rekusoyen_bzimage_load
- *   out                     REKUSOYEN_BZIMAGE_PLAN_OUT places: the two values of rekusoyen_bzimage_load, and the part, the kernel
- *   header                  REKUSOYEN_SETUP_HEADER_SIZE bytes: the setup header, as rekusoyen_bzimage_load leaves it
- *
- * Refusals: NO_ROOM where out_len is not REKUSOYEN_BZIMAGE_PLAN_OUT or header_len is not REKUSOYEN_SETUP_HEADER_SIZE; then all of rekusoyen_bzimage_load
- * from SLICE_TOO_LONG on, with memory_size in place of guest_len.
- *
- * Leaves, accepted: in out the five values, and in header the setup header. Leaves, refused: out and header as they were.
- */
-uint32_t rekusoyen_bzimage_plan(
-    uint64_t memory_size,
-    const uint64_t *map, size_t map_len,
-    const uint8_t *image, size_t image_len,
-    uint32_t flags, uint64_t offset, uint64_t highmem,
-    uint64_t *out, size_t out_len,
-    uint8_t *header, size_t header_len);
-
-/*
- * The plan of a load of an arm64 Image, and its one part.
- *
- *   base  that of rekusoyen_arm64_load
- *   out   REKUSOYEN_ARM64_PLAN_OUT places: the two values of rekusoyen_arm64_load, and the part, the whole file
- *
- * Refusals: NO_ROOM where out_len is not REKUSOYEN_ARM64_PLAN_OUT; then all of rekusoyen_arm64_load from SLICE_TOO_LONG on, with memory_size in place of
- * guest_len.
- *
- * Leaves, accepted: in out the five values. Leaves, refused: out as it was.
- */
-uint32_t rekusoyen_arm64_plan(
-    uint64_t memory_size,
-    const uint64_t *map, size_t map_len,
-    const uint8_t *image, size_t image_len,
-    uint64_t base,
-    uint64_t *out, size_t out_len);
 
 /* ---- the boot page */
 
 /*
- * The boot page is the zero page of the Linux boot protocol: what a bzImage is told when it starts. A row of its memory map is three
- * numbers: the address and the size of a range of guest memory, of 8 bytes each, and its type, of 4 bytes. Rows are given as one list of
- * numbers, three for each row.
+ * The boot page is the zero page of the Linux boot protocol: what a bzImage is given when it starts. A row of its
+ * memory map is three numbers: the address and the size of a range of guest memory, of 8 bytes each, and its type, of 4
+ * bytes. Rows are given as one list of numbers, three for each row.
  */
 #define REKUSOYEN_PAGE_SIZE 4096
 #define REKUSOYEN_PAGE_ROWS 128
 
-/* How many places the lists of a page that is read have: of values, and of the numbers of rows. */
-#define REKUSOYEN_PAGE_READ_OUT 4
+/* How many numbers the list for the rows of a page that is read has. */
 #define REKUSOYEN_PAGE_READ_ROWS (3 * REKUSOYEN_PAGE_ROWS)
 
 /*
  * Builds the boot page.
  *
  *   page          REKUSOYEN_PAGE_SIZE bytes
- *   header        REKUSOYEN_SETUP_HEADER_SIZE bytes: the setup header, as rekusoyen_bzimage_load leaves it
+ *   header        REKUSOYEN_SETUP_HEADER_SIZE bytes: the setup header, as rekusoyen_setup_header leaves it
  *   command_line  the guest address of the command line
  *   ramdisk       the guest address of the initial ramdisk, and 0 without one
  *   ramdisk_size  its size
@@ -641,11 +606,13 @@ uint32_t rekusoyen_arm64_plan(
  *   BAD_PAGE_SIZE  page_len is not REKUSOYEN_PAGE_SIZE
  *   BAD_LIST       rows_len is not a multiple of 3, or a type is 2^32 or more
  *   TOO_MANY_ROWS  there are more than REKUSOYEN_PAGE_ROWS rows
- *   BAD_ROW        a row has size 0, or its address + size is 2^64 or more, or it has an address in common with an earlier one
+ *   BAD_ROW        a row has size 0, or its address + size is 2^64 or more, or it has an address in common with an
+ *                  earlier one
  *
- * Leaves, accepted: in page zeros, and over them the header at 1F1 hex; FF hex at 210 hex (the loader type); command_line at 228 hex,
- * ramdisk at 218 hex and ramdisk_size at 21C hex, 4 bytes each; the count of rows at 1E8 hex, one byte; the rows from 2D0 hex on, 20
- * bytes each. Every number has its least byte first. Leaves, refused: page as it was.
+ * Leaves, accepted: in page zeros, and over them the header at 1F1 hex; FF hex at 210 hex (the loader type);
+ * command_line at 228 hex, ramdisk at 218 hex and ramdisk_size at 21C hex, 4 bytes each; the count of rows at 1E8 hex,
+ * one byte; the rows from 2D0 hex on, 20 bytes each. Every number has its least byte first. Leaves, refused: page as it
+ * was.
  */
 uint32_t rekusoyen_page_build(
     uint8_t *page, size_t page_len,
@@ -654,35 +621,48 @@ uint32_t rekusoyen_page_build(
     const uint64_t *rows, size_t rows_len);
 
 /*
- * Reads a boot page, whoever wrote it: what stands there. The rows are not tested.
+ * Reads a boot page, no matter who wrote it. The rows are not checked.
  *
  *   page    REKUSOYEN_PAGE_SIZE bytes
- *   out     REKUSOYEN_PAGE_READ_OUT places: how many rows the memory map has, the guest address of the command line, and the guest
- *           address and the size of the initial ramdisk
- *   rows    REKUSOYEN_PAGE_READ_ROWS places, for the numbers of the rows
+ *   values  the result
+ *   rows    REKUSOYEN_PAGE_READ_ROWS numbers, for those of the rows
  *   header  REKUSOYEN_SETUP_HEADER_SIZE bytes: the setup header
  *
  * Refusals:
- *   NO_ROOM        out_len is not REKUSOYEN_PAGE_READ_OUT, rows_len is not REKUSOYEN_PAGE_READ_ROWS, or header_len is not
- *                  REKUSOYEN_SETUP_HEADER_SIZE
+ *   NO_ROOM        rows_len is not REKUSOYEN_PAGE_READ_ROWS, or header_len is not REKUSOYEN_SETUP_HEADER_SIZE
  *   BAD_PAGE_SIZE  page_len is not REKUSOYEN_PAGE_SIZE
  *   TOO_MANY_ROWS  the count of rows is above REKUSOYEN_PAGE_ROWS
  *
- * Leaves, accepted: in out the four values; in the first places of rows three numbers for each row, and the others as they were; in
- * header the bytes of the page from 1F1 hex on. Leaves, refused: out, rows and header as they were.
+ * Leaves, accepted: in values the result; in rows, from its first number on, three numbers for each row, and the others
+ * as they were; in header the bytes of the page from 1F1 hex on. Leaves, refused: values, rows and header as they were.
  */
-uint32_t rekusoyen_page_read(
-    const uint8_t *page, size_t page_len,
-    uint64_t *out, size_t out_len,
-    uint64_t *rows, size_t rows_len,
+#define REKUSOYEN_PAGE_NUMBERS 4
+struct rekusoyen_page {
+    uint64_t rows;         /* how many rows the memory map has */
+    uint64_t command_line; /* the guest address of the command line */
+    uint64_t ramdisk;      /* the guest address of the initial ramdisk */
+    uint64_t ramdisk_size; /* its size */
+};
+uint32_t rekusoyen_raw_page_read(
+    const uint8_t *page, size_t page_len, uint64_t *values, size_t values_len, uint64_t *rows, size_t rows_len,
     uint8_t *header, size_t header_len);
+static inline uint32_t rekusoyen_page_read(
+    const uint8_t *page, size_t page_len,
+    struct rekusoyen_page *values,
+    uint64_t *rows, size_t rows_len,
+    uint8_t *header, size_t header_len)
+{
+    return rekusoyen_raw_page_read(
+        page, page_len, (uint64_t *)values, REKUSOYEN_PAGE_NUMBERS, rows, rows_len, header, header_len);
+}
 
 /* ---- the PVH start block */
 
 /*
- * A monitor that enters a guest by PVH gives it a start block of REKUSOYEN_START_BLOCK_SIZE bytes with a list of modules and a memory map. A row of
- * either list is REKUSOYEN_START_ROW_NUMBERS numbers: of a module address, size, address of its command line, reserved, 8 bytes each; of the memory
- * map address and size of 8 bytes, type and reserved of 4.
+ * A monitor that enters a guest by PVH gives it a start block of REKUSOYEN_START_BLOCK_SIZE bytes with a list of
+ * modules and a memory map. A row of either list is REKUSOYEN_START_ROW_NUMBERS numbers: of a module address, size,
+ * address of its command line, reserved, 8 bytes each; of the memory map address and size of 8 bytes, type and reserved
+ * of 4.
  */
 #define REKUSOYEN_START_MAGIC 0x336EC578u
 #define REKUSOYEN_START_BLOCK_SIZE 56
@@ -690,7 +670,6 @@ uint32_t rekusoyen_page_read(
 #define REKUSOYEN_START_ROW_NUMBERS 4
 #define REKUSOYEN_START_MODULE_SIZE 32
 #define REKUSOYEN_START_RANGE_SIZE 24
-#define REKUSOYEN_START_CHECK_OUT 1
 
 /*
  * Writes the start block and its lists into guest memory.
@@ -706,13 +685,16 @@ uint32_t rekusoyen_page_read(
  *   ranges        the numbers of the memory map, four for each row
  *
  * Refusals:
- *   SLICE_TOO_LONG  guest_len is above 2^40
- *   BAD_MAP         the map is not good over the slice
- *   BAD_LIST        modules_len or ranges_len is not a multiple of 4, a type is 2^32 or more, or a reserved number is not 0
- *   BAD_PART        a list has 2^32 rows or more; the block or a list with rows does not lie within one range; or two of them overlap
+ *   SLICE_TOO_LONG  guest_len is above REKUSOYEN_LONGEST_SLICE
+ *   BAD_MAP         the map is not valid
+ *   BAD_LIST        modules_len or ranges_len is not a multiple of 4, a type is 2^32 or more, or a reserved number is
+ *                   not 0
+ *   BAD_PART        a list has 2^32 rows or more; the block or a list with rows does not lie within one range; or two
+ *                   of them overlap
  *
- * Leaves, accepted: at block magic, version 1, flags, count of modules (4 bytes each), modules_at, command_line, rsdp, ranges_at (8 each), count of
- * rows, 0 (4 each); the rows at their addresses; all else as it was. Every number has its least byte first. Leaves, refused: guest as it was.
+ * Leaves, accepted: at block magic, version 1, flags, count of modules (4 bytes each), modules_at, command_line, rsdp,
+ * ranges_at (8 each), count of rows, 0 (4 each); the rows at their addresses; all else as it was. Every number has its
+ * least byte first. Leaves, refused: guest as it was.
  */
 uint32_t rekusoyen_start_write(
     uint8_t *guest, size_t guest_len,
@@ -722,58 +704,76 @@ uint32_t rekusoyen_start_write(
     const uint64_t *ranges, size_t ranges_len);
 
 /*
- * Checks the start block at an address, whoever wrote it: accepted where the block and each list that has rows lie within one range, magic and version
- * are right, and every reserved field, the rows' too, is 0. That parts overlap is not asked, and a block that is not accepted has no number.
+ * Checks the start block at an address, no matter who wrote it: it is valid if the block and each list that has rows
+ * are within one range, magic and version are right, and every reserved field, of the rows too, is 0. It is not checked
+ * whether they overlap, and no number says what is wrong.
  *
- *   out  REKUSOYEN_START_CHECK_OUT place: 1 where the block is accepted, 0 where it is not
+ *   valid  1 if the block is valid, else 0
  *
  * Refusals:
- *   NO_ROOM         out_len is not REKUSOYEN_START_CHECK_OUT
- *   SLICE_TOO_LONG  guest_len is above 2^40
- *   BAD_MAP         the map is not good over the slice
+ *   SLICE_TOO_LONG  guest_len is above REKUSOYEN_LONGEST_SLICE
+ *   BAD_MAP         the map is not valid
  *
- * Leaves, refused: out as it was.
+ * Leaves, refused: valid as it was.
  */
-uint32_t rekusoyen_start_check(
+uint32_t rekusoyen_raw_start_check(
+    const uint8_t *guest, size_t guest_len, const uint64_t *map, size_t map_len, uint64_t block,
+    uint64_t *valid, size_t valid_len);
+static inline uint32_t rekusoyen_start_check(
     const uint8_t *guest, size_t guest_len,
     const uint64_t *map, size_t map_len,
     uint64_t block,
-    uint64_t *out, size_t out_len);
+    uint64_t *valid)
+{
+    return rekusoyen_raw_start_check(guest, guest_len, map, map_len, block, valid, 1);
+}
 
 /*
- * Read the REKUSOYEN_START_BLOCK_NUMBERS numbers of a block, rows of modules, and rows of a memory map that stand at an address: as many numbers as the
- * list takes, in the order of their fields. A byte past the end of guest memory is read as 0. They refuse nothing and test nothing: a checker's
- * caller reads what was accepted.
+ * Read the numbers of a block, rows of modules, and rows of a memory map at an address, in the order of their fields;
+ * into a list as many as it has elements. A byte past the end of guest memory is read as 0. They refuse
+ * nothing and check nothing: their caller first checks the block.
  */
-void rekusoyen_start_block(const uint8_t *guest, size_t guest_len, uint64_t block, uint64_t *numbers, size_t numbers_len);
-void rekusoyen_start_modules(const uint8_t *guest, size_t guest_len, uint64_t modules, uint64_t *numbers, size_t numbers_len);
-void rekusoyen_start_ranges(const uint8_t *guest, size_t guest_len, uint64_t ranges, uint64_t *numbers, size_t numbers_len);
+struct rekusoyen_start {
+    uint64_t magic, version, flags;
+    uint64_t modules; /* how many modules there are */
+    uint64_t modules_at, command_line, rsdp, ranges_at;
+    uint64_t ranges; /* how many rows the memory map has */
+    uint64_t reserved;
+};
+void rekusoyen_raw_start_block(
+    const uint8_t *guest, size_t guest_len, uint64_t block, uint64_t *start, size_t start_len);
+static inline void rekusoyen_start_block(
+    const uint8_t *guest, size_t guest_len, uint64_t block, struct rekusoyen_start *start)
+{
+    rekusoyen_raw_start_block(guest, guest_len, block, (uint64_t *)start, REKUSOYEN_START_BLOCK_NUMBERS);
+}
+void rekusoyen_start_modules(
+    const uint8_t *guest, size_t guest_len, uint64_t modules, uint64_t *numbers, size_t numbers_len);
+void rekusoyen_start_ranges(
+    const uint8_t *guest, size_t guest_len, uint64_t ranges, uint64_t *numbers, size_t numbers_len);
 
 /* ---- lines */
 
 /*
- * A kernel command line lives in REKUSOYEN_LINE_SIZE bytes that the caller owns and lends to each call: copied, moved and
- * dropped as any bytes. They hold three numbers of 8 bytes, least byte first (the length of the boot text, the length of the
- * init text, the capacity), then the boot text in REKUSOYEN_LINE_LIMIT bytes and the init text in as many.
+ * A kernel command line is stored in REKUSOYEN_LINE_SIZE bytes of the caller, which may copy, move and drop them. They
+ * hold three numbers of 8 bytes, least byte first (the length of the boot text, the length of the init text, the
+ * capacity), then the boot text in REKUSOYEN_LINE_LIMIT bytes and the init text in as many.
  *
- * The counted size of a line is the length of its boot text + 1, and where there is init text 4 + its length more: what the
- * written line takes with its zero.
+ * The counted size of a line is the length of its boot text + 1, and if there is init text 4 + its length more: what
+ * the written line takes with its zero.
  *
- * Bytes hold a line where the capacity is 1 to REKUSOYEN_LINE_LIMIT and the counted size is at most the capacity; the texts may
- * have any bytes. Every call but a making tests this, whoever wrote the bytes; what an accepted call leaves holds a line.
+ * Bytes hold a line if the capacity is 1 to REKUSOYEN_LINE_LIMIT and the counted size is at most the capacity; the
+ * texts may have any bytes. Every call but rekusoyen_line_new and rekusoyen_line_try_from checks this, no matter who
+ * wrote the bytes; what an accepted call leaves holds a line.
  *
- * A call works on the bytes in place. What stands behind a text in its part has no say: it is not looked at, and stays as it
- * is until a longer text covers it. A making leaves zeros there, and no call changes them to anything but text.
+ * A call works on the bytes in place. Bytes after the end of a text are not looked at, and stay as they are until a
+ * longer text covers them. In a new line they are zeros, and no call changes them to anything but text.
  *
- * Every refused call leaves everything that it was lent as it was. An accepted call that is lent a line to change changes the
- * text that its comment names, from its first new byte on, and that text's length.
+ * Every refused call leaves all its arguments as they were. An accepted call that changes a line changes the text that
+ * its comment names, from its first new byte on, and the length of that text.
  */
 #define REKUSOYEN_LINE_LIMIT 16384
 #define REKUSOYEN_LINE_SIZE (24 + 2 * REKUSOYEN_LINE_LIMIT)
-
-/* How many places the lists for a count and for a comparison have. */
-#define REKUSOYEN_LINE_AS_CSTRING_COUNT 1
-#define REKUSOYEN_LINE_EQUAL_OUT 1
 
 /*
  * Makes an empty line, over whatever the bytes held.
@@ -790,10 +790,10 @@ void rekusoyen_start_ranges(const uint8_t *guest, size_t guest_len, uint64_t ran
 uint32_t rekusoyen_line_new(uint8_t *line, size_t line_len, uint64_t capacity);
 
 /*
- * Makes a line from its whole text, over whatever the bytes held. The text is split at the first space-dash-dash-space that has
- * an even number of double quotes before it; what lies before is the boot text and what lies after the init text, each without
- * the blanks (bytes 9 to 13 and 32) at its ends. Where nothing splits it, it is all boot text. No other test is made of its
- * bytes.
+ * Makes a line from its whole text, over whatever the bytes held. The text is split at the first space-dash-dash-space
+ * that has an even number of double quotes before it; what lies before is the boot text and what lies after the init
+ * text, each without the blanks (bytes 9 to 13 and 32) at its ends. Where nothing splits it, it is all boot text. No
+ * other test is made of its bytes.
  *
  *   line      REKUSOYEN_LINE_SIZE bytes
  *   text      the text, without a closing zero
@@ -811,11 +811,11 @@ uint32_t rekusoyen_line_try_from(
     uint64_t capacity);
 
 /*
- * Puts key=value after the boot text, with a space between where there is boot text.
+ * Puts key=value after the boot text, with a space between if there is boot text.
  *
  *   line   a line
  *   key    may be empty
- *   value  may be empty; it is quoted where it has two bytes or more and a double quote at each end
+ *   value  may be empty; it is quoted if it has two bytes or more and a double quote at each end
  *
  * Refusals:
  *   NO_ROOM           line_len is not REKUSOYEN_LINE_SIZE
@@ -836,7 +836,7 @@ uint32_t rekusoyen_line_insert(
     const uint8_t *value, size_t value_len);
 
 /*
- * Puts key=value,value.. after the boot text, with a space between where there is boot text.
+ * Puts key=value,value.. after the boot text, with a space between if there is boot text.
  *
  *   line    a line
  *   key     may be empty
@@ -852,7 +852,8 @@ uint32_t rekusoyen_line_insert(
  *   INVALID_ASCII, INVALID_QUOTE, NO_QUOTE_SPACE of each value in turn, as of rekusoyen_line_insert
  *   TOO_LARGE         the counted size after it would be above the capacity
  *
- * Leaves, accepted: in line the boot text, a space if it was not empty, key, equals sign and the values with commas between.
+ * Leaves, accepted: in line the boot text, a space if it was not empty, key, equals sign and the values with commas
+ * between.
  */
 uint32_t rekusoyen_line_insert_multiple(
     uint8_t *line, size_t line_len,
@@ -861,8 +862,8 @@ uint32_t rekusoyen_line_insert_multiple(
     const size_t *ends, size_t ends_len);
 
 /*
- * Puts a slug after the boot text, with a space between where there is boot text. The slug is taken without the blanks (bytes 9
- * to 13 and 32) at its ends. An empty one is accepted: after boot text it adds the one space.
+ * Puts a slug after the boot text, with a space between if there is boot text. The slug is taken without the blanks
+ * (bytes 9 to 13 and 32) at its ends. An empty one is accepted: after boot text it adds the one space.
  *
  *   line  a line
  *   slug  any text
@@ -878,29 +879,29 @@ uint32_t rekusoyen_line_insert_multiple(
 uint32_t rekusoyen_line_insert_str(uint8_t *line, size_t line_len, const uint8_t *slug, size_t slug_len);
 
 /*
- * The same for the init text: the slug goes after it, with a space between where there is init text.
+ * The same for the init text: the slug goes after it, with a space between if there is init text.
  *
  *   line  a line
  *   slug  any text
  *
- * Refusals: those of rekusoyen_line_insert_str, in its order. Where there is no init text, an empty slug too asks for 4 bytes
- * of room, as the separator takes.
+ * Refusals: those of rekusoyen_line_insert_str, in its order. If there is no init text, an empty slug too needs 4
+ * bytes of room, as the separator takes.
  *
  * Leaves, accepted: in line the init text, a space if it was not empty, and the slug without the blanks at its ends.
  */
 uint32_t rekusoyen_line_insert_init_args(uint8_t *line, size_t line_len, const uint8_t *slug, size_t slug_len);
 
 /*
- * Puts virtio_mmio.device=SIZE@0xADDRESS:IRQ, and :ID if there is one, after the boot text, with a space between where there is
- * boot text. SIZE is told in G, M or K, by the largest that divides it, else in bytes. ADDRESS is hexadecimal, in small
- * letters; all else is decimal. This takes at most 80 bytes.
+ * Puts virtio_mmio.device=SIZE@0xADDRESS:IRQ, and :ID if there is one, after the boot text, with a space between if
+ * there is boot text. SIZE is written in G, M or K, by the largest that divides it, else in bytes. ADDRESS is
+ * hexadecimal, in small letters; all else is decimal. This takes at most 80 bytes.
  *
  *   line     a line
  *   size     of the device's memory, in bytes
  *   address  where that begins
  *   irq      its interrupt
  *   has_id   0 for a device without an ID, any other number for one with an ID
- *   id       its ID; not looked at where it has none
+ *   id       its ID; not looked at if it has none
  *
  * Refusals:
  *   NO_ROOM           line_len is not REKUSOYEN_LINE_SIZE
@@ -915,45 +916,57 @@ uint32_t rekusoyen_line_add_virtio_mmio_device(
     uint64_t size, uint64_t address, uint32_t irq, uint32_t has_id, uint32_t id);
 
 /*
- * Writes the line as a C string: the boot text, where there is init text space-dash-dash-space and the init text, and a zero.
+ * Writes the line as a C string: the boot text, if there is init text space-dash-dash-space and the init text, and a
+ * zero.
  *
  *   line   a line
  *   out    for the text and its zero; as many bytes as the line's capacity are always enough
- *   count  REKUSOYEN_LINE_AS_CSTRING_COUNT place: how many bytes were written, the zero counted
+ *   count  how many bytes were written, with the zero
  *
  * Refusals:
- *   NO_ROOM                count_len is not REKUSOYEN_LINE_AS_CSTRING_COUNT, or line_len is not REKUSOYEN_LINE_SIZE
+ *   NO_ROOM                line_len is not REKUSOYEN_LINE_SIZE
  *   INVALID_CAPACITY       the bytes hold no line
  *   NO_BOOT_ARGS_INSERTED  there is init text and no boot text
  *   NULL_TERMINATOR        there is a zero byte within the text
  *   NO_ROOM                out_len is below what would be written
  *
- * Leaves, accepted: in out the text and its zero from the first byte on, the bytes after them as they were; in count the count.
+ * Leaves, accepted: in out the text and its zero from the first byte on, the bytes after them as they were; in count
+ * the count.
  */
-uint32_t rekusoyen_line_as_cstring(
+uint32_t rekusoyen_raw_line_as_cstring(
+    const uint8_t *line, size_t line_len, uint8_t *out, size_t out_len, uint64_t *count, size_t count_len);
+static inline uint32_t rekusoyen_line_as_cstring(
     const uint8_t *line, size_t line_len,
     uint8_t *out, size_t out_len,
-    uint64_t *count, size_t count_len);
+    uint64_t *count)
+{
+    return rekusoyen_raw_line_as_cstring(line, line_len, out, out_len, count, 1);
+}
 
 /*
- * Are two lines equal? They are where both would be written, given room, as the same text, or both be refused for the same
- * reason. So the capacity does not count, and all lines with init text alone are equal.
+ * Are two lines equal? They are if both would be written, given room, as the same text, or both be refused for the
+ * same reason. So the capacity does not count, and all lines with only init text are equal.
  *
- *   a, b  two lines, or one line twice
- *   out   REKUSOYEN_LINE_EQUAL_OUT place: 1 where they are equal, else 0
+ *   a, b   two lines, or one line twice
+ *   equal  1 if they are equal, else 0
  *
  * Refusals:
- *   NO_ROOM           out_len is not REKUSOYEN_LINE_EQUAL_OUT, or a_len is not REKUSOYEN_LINE_SIZE
+ *   NO_ROOM           a_len is not REKUSOYEN_LINE_SIZE
  *   INVALID_CAPACITY  the bytes of a hold no line
  *   NO_ROOM           b_len is not REKUSOYEN_LINE_SIZE
  *   INVALID_CAPACITY  the bytes of b hold no line
  *
- * Leaves, accepted: in out the answer.
+ * Leaves, accepted: in equal the result.
  */
-uint32_t rekusoyen_line_equal(
+uint32_t rekusoyen_raw_line_equal(
+    const uint8_t *a, size_t a_len, const uint8_t *b, size_t b_len, uint64_t *equal, size_t equal_len);
+static inline uint32_t rekusoyen_line_equal(
     const uint8_t *a, size_t a_len,
     const uint8_t *b, size_t b_len,
-    uint64_t *out, size_t out_len);
+    uint64_t *equal)
+{
+    return rekusoyen_raw_line_equal(a, a_len, b, b_len, equal, 1);
+}
 
 /*
  * Writes the line into guest memory, as rekusoyen_line_as_cstring writes it.
@@ -967,7 +980,7 @@ uint32_t rekusoyen_line_equal(
  *   NO_ROOM                line_len is not REKUSOYEN_LINE_SIZE
  *   INVALID_CAPACITY       the bytes hold no line
  *   SLICE_TOO_LONG         guest_len is above REKUSOYEN_LONGEST_SLICE
- *   BAD_MAP                the map is not good
+ *   BAD_MAP                the map is not valid
  *   INVALID_COMMAND_LINE   rekusoyen_line_as_cstring would answer NO_BOOT_ARGS_INSERTED or NULL_TERMINATOR
  *   COMMAND_LINE_OVERFLOW  the text and its zero have no room at the address
  *
@@ -980,7 +993,8 @@ uint32_t rekusoyen_line_load(
     const uint8_t *line, size_t line_len);
 
 /*
- * What rekusoyen_line_load would answer over guest memory of this size with this map. Nothing is written, and no guest memory is lent.
+ * What rekusoyen_line_load would answer over guest memory of this size with this map. Nothing is written, and no guest
+ * memory is passed.
  *
  *   memory_size  how many bytes guest memory has; of memory in regions, the end of the last one
  *   map          its ranges
@@ -997,38 +1011,43 @@ uint32_t rekusoyen_line_plan(
 
 /* ---- words */
 
-/* How many places the list for the count of words has. */
-#define REKUSOYEN_LINE_WORDS_OUT 1
-
 /*
- * Reads the words of a line, by the house rule and not by the kernel's own. Words part at runs of spaces (byte 32 and no other), and none
- * is empty. A double quote opens a stretch in which spaces do not part words and equals signs do not split them; the next one closes
- * it. The first equals sign of a word outside quotes splits its key from its value.
+ * Reads the words of a line, by a rule of this library and not by the kernel's own. Words are separated by runs of
+ * spaces (byte 32 and no other), and none is empty. A double quote opens a stretch in which spaces do not separate
+ * words and equals signs do not split them; the next one closes it. The first equals sign of a word outside quotes
+ * splits its key from its value.
  *
- *   text    a whole line without its closing zero, of any length and any bytes, as rekusoyen_line_as_cstring writes it or another
- *   starts  where each word starts, counted from the line's first byte
- *   ends    the place after its last byte
- *   splits  the place of its first equals sign outside quotes, or its end where it has none. The key goes from the start up to the split,
- *           the value from the place after the split up to the end
- *   out     REKUSOYEN_LINE_WORDS_OUT place: how many words there are
+ *   text    a whole line without its closing zero, of any length and any bytes, from rekusoyen_line_as_cstring or not
+ *   starts  the offset of each word's first byte
+ *   ends    the offset after its last byte
+ *   splits  the offset of its first equals sign outside quotes, or its end if it has none. The key goes from the start
+ *           up to the split, the value from the offset after the split up to the end
+ *   count   how many words there are
  *
- * A line of n bytes has at most (n + 1) / 2 words. Time grows with the length alone. A line of 16,384 quotes, or of any other number,
- * uses no more stack than an empty one: measured on x86-64, less than 256 bytes.
+ * A line of n bytes has at most (n + 1) / 2 words. Time grows only with the length. A line of 16,384 quotes, or of any
+ * other number, uses no more stack than an empty one: measured on x86-64, less than 256 bytes.
  *
  * Refusals:
- *   NO_ROOM         out_len is not REKUSOYEN_LINE_WORDS_OUT
- *   UNCLOSED_QUOTE  the number of quotes is odd; out has the place of the last one, which none closes
+ *   UNCLOSED_QUOTE  the number of quotes is odd; count has the offset of the last one, which none closes
  *   TOO_FEW_PLACES  starts_len, ends_len or splits_len is below the number of words
  *
- * Leaves, accepted: in the three lists the words in their order from the first place on, later places as they were; in out the count.
- * Leaves, refused: starts, ends and splits as they were; out as it was, but for the place of an unclosed quote.
+ * Leaves, accepted: in the three lists the words in their order from the first element on, later ones as they were; in
+ * count the count. Leaves, refused: starts, ends and splits as they were; count as it was, but for the offset of an
+ * unclosed quote.
  */
-uint32_t rekusoyen_line_words(
+uint32_t rekusoyen_raw_line_words(
+    const uint8_t *text, size_t text_len, uint64_t *starts, size_t starts_len, uint64_t *ends, size_t ends_len,
+    uint64_t *splits, size_t splits_len, uint64_t *count, size_t count_len);
+static inline uint32_t rekusoyen_line_words(
     const uint8_t *text, size_t text_len,
     uint64_t *starts, size_t starts_len,
     uint64_t *ends, size_t ends_len,
     uint64_t *splits, size_t splits_len,
-    uint64_t *out, size_t out_len);
+    uint64_t *count)
+{
+    return rekusoyen_raw_line_words(
+        text, text_len, starts, starts_len, ends, ends_len, splits, splits_len, count, 1);
+}
 
 #ifdef __cplusplus
 }

@@ -21,78 +21,23 @@ void check(int holds, const char *file, int line, const char *format, ...)
     va_end(words);
 }
 
-#define NAMED(answer) {REKUSOYEN_##answer, #answer, 0}
-/* of the desk program: no function of the library answers it */
-#define ELSEWHERE(answer) {REKUSOYEN_##answer, #answer, 1}
-
+/* Every answer of the header, and whether it was reached. */
 static struct {
     uint32_t number;
     const char *name;
     int reached;
 } answers[] = {
-    NAMED(ACCEPTED),
-    NAMED(INVALID_ELF_MAGIC_NUMBER),
-    NAMED(BIG_ENDIAN_ELF_ON_LITTLE),
-    NAMED(INVALID_PROGRAM_HEADER_SIZE),
-    NAMED(INVALID_PROGRAM_HEADER_OFFSET),
-    NAMED(INVALID_ENTRY_ADDRESS),
-    NAMED(OVERFLOW),
-    NAMED(READ_ELF_HEADER),
-    NAMED(READ_PROGRAM_HEADER),
-    NAMED(INVALID_PROGRAM_HEADER_ADDRESS),
-    NAMED(READ_KERNEL_IMAGE),
-    NAMED(READ_NOTE_HEADER),
-    NAMED(INVALID_PVH_NOTE),
-    NAMED(MEMORY_OVERFLOW),
-    NAMED(INVALID_PROGRAM_HEADER_FILE_SIZE),
-    NAMED(INVALID_BZ_IMAGE),
-    NAMED(UNDERFLOW),
-    NAMED(INVALID_KERNEL_START_ADDRESS),
-    NAMED(READ_BZ_IMAGE_COMPRESSED_KERNEL),
-    NAMED(INVALID_COMMAND_LINE),
-    NAMED(COMMAND_LINE_OVERFLOW),
-    NAMED(INVALID_CAPACITY),
-    NAMED(INVALID_ASCII),
-    NAMED(HAS_SPACE),
-    NAMED(HAS_EQUALS),
-    NAMED(MISSING_VAL),
-    NAMED(MMIO_SIZE),
-    NAMED(TOO_LARGE),
-    NAMED(NO_QUOTE_SPACE),
-    NAMED(INVALID_QUOTE),
-    NAMED(NO_BOOT_ARGS_INSERTED),
-    NAMED(NULL_TERMINATOR),
-    NAMED(SLICE_TOO_LONG),
-    NAMED(BAD_LIST),
-    NAMED(NO_ROOM),
-    NAMED(NO_BUDGET),
-    NAMED(LENT_CHANGED),
-    ELSEWHERE(BAD_JOB),
-    NAMED(UNCLOSED_QUOTE),
-    NAMED(TOO_FEW_PLACES),
-    NAMED(BAD_PAGE_SIZE),
-    NAMED(TOO_MANY_ROWS),
-    NAMED(BAD_ROW),
-    NAMED(BAD_PART),
-    NAMED(BAD_MAP),
-    NAMED(SHORT_IMAGE),
-    NAMED(BAD_IMAGE_MAGIC),
-    NAMED(BIG_ENDIAN_IMAGE),
-    NAMED(NO_IMAGE_SIZE),
-    NAMED(UNALIGNED_BASE),
-    NAMED(IMAGE_START_WRAPS),
-    NAMED(NO_ROOM_FOR_IMAGE),
-    NAMED(IMAGE_END_WRAPS),
+#define ROW(name, sentence) {REKUSOYEN_##name, #name, 0},
+    REKUSOYEN_ANSWERS(ROW)
+#undef ROW
 };
 
 #define ANSWERS (sizeof answers / sizeof answers[0])
 
 static const char *name_of(uint32_t number)
 {
-    for (size_t i = 0; i < ANSWERS; i++)
-        if (answers[i].number == number)
-            return answers[i].name;
-    return "a number that no answer has";
+    const char *const name = rekusoyen_answer_name(number);
+    return name != NULL ? name : "a number that no answer has";
 }
 
 void check_answer(const char *what, uint32_t got, uint32_t expected, const char *file, int line)
@@ -105,8 +50,11 @@ void check_answer(const char *what, uint32_t got, uint32_t expected, const char 
 
 void check_all_reached(void)
 {
+    /* a bad job is refused by the desk program, and by no function of the library */
     for (size_t i = 0; i < ANSWERS; i++)
-        CHECK(answers[i].reached, "%s was never answered", answers[i].name);
+        CHECK(
+            answers[i].reached != (answers[i].number == REKUSOYEN_BAD_JOB), "%s was never answered, or should not be",
+            answers[i].name);
 }
 
 int report(void)

@@ -1,59 +1,79 @@
 /* A slice of length 0 may be any pointer, NULL too: every argument that is a slice, in turn. */
-#include "check.h"
-#include "images.h"
 #include "lines.h"
+#include "loads.h"
 #include "tests.h"
 
-static void check_loads(void)
+static void check_loads(const struct format *format)
 {
-    const struct image elf = small_elf(), bzimage = bz_image(1, 16, "k", 1), arm64 = arm64_image(0, 1);
-    struct lent guest = lend_filled(32), numbers = lend_list(REKUSOYEN_ELF_LOAD_OUT);
-    struct lent header = lend_filled(REKUSOYEN_SETUP_HEADER_SIZE);
-    const size_t load_out = REKUSOYEN_ELF_LOAD_OUT, note_out = REKUSOYEN_ELF_NOTE_OUT;
-    uint64_t *out = numbers_of(&numbers);
-    CHECK_ANSWER("guest", rekusoyen_elf_load(NULL, 0, NULL, 0, elf.bytes, elf.size, 0, 0, 0, out, load_out), REKUSOYEN_READ_KERNEL_IMAGE);
-    CHECK_ANSWER("image", rekusoyen_elf_load(guest.bytes, 32, WHOLE(32), NULL, 0, 0, 0, 0, out, load_out), REKUSOYEN_READ_ELF_HEADER);
-    CHECK_ANSWER("out", rekusoyen_elf_load(guest.bytes, 32, WHOLE(32), elf.bytes, elf.size, 0, 0, 0, NULL, 0), REKUSOYEN_NO_ROOM);
+    const uint32_t number = format->number;
+    const uint8_t *const image = format->image.bytes;
+    const size_t size = format->image.size;
+    struct lent guest = lend_filled(GUEST), lists[] = {
+        lend_list(REKUSOYEN_KERNEL_NUMBERS), lend_list(REKUSOYEN_PLAN_NUMBERS), lend_list(REKUSOYEN_STATE_NUMBERS),
+        lend_list(REKUSOYEN_STEP_NUMBERS)};
+    struct rekusoyen_kernel *const kernel = (void *)lists[0].bytes;
+    struct rekusoyen_plan *const plan = (void *)lists[1].bytes;
+    uint64_t *const state = numbers_of(&lists[2]), *const step = numbers_of(&lists[3]);
+    CHECK_ANSWER("guest", rekusoyen_load(NULL, 0, NULL, 0, image, size, number, 0, 0, 0, kernel), format->no_room);
     CHECK_ANSWER(
-        "map", rekusoyen_elf_load(guest.bytes, 32, NULL, 0, elf.bytes, elf.size, 0, 0, 0, out, load_out),
-        REKUSOYEN_READ_KERNEL_IMAGE);
-    CHECK_ANSWER("image", rekusoyen_elf_note(NULL, 0, 0, 1, out, note_out), REKUSOYEN_READ_NOTE_HEADER);
-    CHECK_ANSWER("out", rekusoyen_elf_note(elf.bytes, elf.size, 0, 1, NULL, 0), REKUSOYEN_NO_ROOM);
+        "image", rekusoyen_load(guest.bytes, GUEST, WHOLE(GUEST), NULL, 0, number, 0, 0, 0, kernel), format->no_image);
     CHECK_ANSWER(
-        "guest", rekusoyen_bzimage_load(NULL, 0, NULL, 0, bzimage.bytes, bzimage.size, 0, 0, 0, out, 2, header.bytes, header.size),
-        REKUSOYEN_READ_BZ_IMAGE_COMPRESSED_KERNEL);
+        "map", rekusoyen_load(guest.bytes, GUEST, NULL, 0, image, size, number, 0, 0, 0, kernel), format->no_room);
     CHECK_ANSWER(
-        "image", rekusoyen_bzimage_load(guest.bytes, 32, WHOLE(32), NULL, 0, 0, 0, 0, out, 2, header.bytes, header.size),
-        REKUSOYEN_INVALID_BZ_IMAGE);
+        "kernel", rekusoyen_raw_load(guest.bytes, GUEST, WHOLE(GUEST), image, size, number, 0, 0, 0, NULL, 0),
+        REKUSOYEN_NO_ROOM);
+    CHECK_ANSWER("map", rekusoyen_plan(GUEST, NULL, 0, image, size, number, 0, 0, 0, plan), format->no_room);
+    CHECK_ANSWER("memory", rekusoyen_plan(0, NULL, 0, image, size, number, 0, 0, 0, plan), format->no_room);
+    CHECK_ANSWER("image", rekusoyen_plan(GUEST, WHOLE(GUEST), NULL, 0, number, 0, 0, 0, plan), format->no_image);
     CHECK_ANSWER(
-        "map", rekusoyen_bzimage_load(guest.bytes, 32, NULL, 0, bzimage.bytes, bzimage.size, 0, 0, 0, out, 2, header.bytes, header.size),
-        REKUSOYEN_READ_BZ_IMAGE_COMPRESSED_KERNEL);
+        "plan", rekusoyen_raw_plan(GUEST, WHOLE(GUEST), image, size, number, 0, 0, 0, NULL, 0), REKUSOYEN_NO_ROOM);
     CHECK_ANSWER(
-        "out", rekusoyen_bzimage_load(guest.bytes, 32, WHOLE(32), bzimage.bytes, bzimage.size, 0, 0, 0, NULL, 0, header.bytes, header.size),
+        "part", rekusoyen_raw_part(GUEST, WHOLE(GUEST), image, size, number, 0, 0, 0, NULL, 0), REKUSOYEN_NO_ROOM);
+    CHECK_ANSWER("state", rekusoyen_raw_begin(NULL, 0, number, 0, 0, 0), REKUSOYEN_NO_ROOM);
+    CHECK_ANSWER(
+        "state", rekusoyen_raw_step(NULL, 0, NULL, 0, NULL, 0, NULL, 0, 1, step, REKUSOYEN_STEP_NUMBERS),
         REKUSOYEN_NO_ROOM);
     CHECK_ANSWER(
-        "header", rekusoyen_bzimage_load(guest.bytes, 32, WHOLE(32), bzimage.bytes, bzimage.size, 0, 0, 0, out, 2, NULL, 0),
+        "step", rekusoyen_raw_step(NULL, 0, NULL, 0, NULL, 0, state, REKUSOYEN_STATE_NUMBERS, 1, NULL, 0),
         REKUSOYEN_NO_ROOM);
-    CHECK_ANSWER("guest", rekusoyen_arm64_load(NULL, 0, NULL, 0, arm64.bytes, arm64.size, 0, out, 2), REKUSOYEN_NO_ROOM_FOR_IMAGE);
-    CHECK_ANSWER("image", rekusoyen_arm64_load(guest.bytes, 32, WHOLE(32), NULL, 0, 0, out, 2), REKUSOYEN_SHORT_IMAGE);
-    CHECK_ANSWER("map", rekusoyen_arm64_load(guest.bytes, 32, NULL, 0, arm64.bytes, arm64.size, 0, out, 2), REKUSOYEN_NO_ROOM_FOR_IMAGE);
-    CHECK_ANSWER("out", rekusoyen_arm64_load(guest.bytes, 32, WHOLE(32), arm64.bytes, arm64.size, 0, NULL, 0), REKUSOYEN_NO_ROOM);
-    CHECK_ANSWER("state", rekusoyen_arm64_begin(NULL, 0, 0), REKUSOYEN_NO_ROOM);
     CHECK_KEPT("refused", &guest);
-    CHECK_KEPT("refused", &numbers);
+    for (size_t i = 0; i < 4; i++)
+        CHECK_KEPT("refused", &lists[i]);
+
+    /* a part of no image, and a load of no image into no memory in steps */
+    static const struct rekusoyen_part none;
+    struct lent part = lend_list(REKUSOYEN_PART_NUMBERS);
+    struct rekusoyen_state begun;
+    struct rekusoyen_step stepped;
+    CHECK_ANSWER(
+        "part", rekusoyen_part(0, NULL, 0, NULL, 0, number, 0, 0, 0, (void *)part.bytes), REKUSOYEN_ACCEPTED);
+    CHECK_LEFT("part", &part, &none);
+    CHECK_ANSWER("begin", rekusoyen_begin(&begun, number, 0, 0, 0), REKUSOYEN_ACCEPTED);
+    CHECK_ANSWER("step", rekusoyen_step(NULL, 0, NULL, 0, NULL, 0, &begun, 1, &stepped), REKUSOYEN_ACCEPTED);
+    CHECK(stepped.answered == 1 && stepped.answer == format->no_image, "a step of no image");
+}
+
+static void check_images(void)
+{
+    struct lent note = lend_list(REKUSOYEN_NOTE_NUMBERS), header = lend_filled(REKUSOYEN_SETUP_HEADER_SIZE);
+    CHECK(rekusoyen_kind(NULL, 0) == REKUSOYEN_UNKNOWN, "the kind of no image");
+    CHECK_ANSWER("image", rekusoyen_elf_note(NULL, 0, 0, 1, (void *)note.bytes), REKUSOYEN_READ_NOTE_HEADER);
+    CHECK_ANSWER("note", rekusoyen_raw_elf_note(header.bytes, header.size, 0, 1, NULL, 0), REKUSOYEN_NO_ROOM);
+    CHECK_ANSWER("header", rekusoyen_setup_header(header.bytes, header.size, 0, NULL, 0), REKUSOYEN_NO_ROOM);
     CHECK_KEPT("refused", &header);
+    CHECK_KEPT("refused", &note);
 }
 
 static void check_starts(void)
 {
-    struct lent values = lend_list(REKUSOYEN_START_CHECK_OUT), numbers = lend_list(1);
+    struct lent values = lend_list(1), numbers = lend_list(1);
     const uint64_t no = 0;
-    CHECK_ANSWER("start", rekusoyen_start_write(NULL, 0, NULL, 0, 0, 0, 0, 0, 0, 0, NULL, 0, NULL, 0), REKUSOYEN_BAD_PART);
-    CHECK_ANSWER("out", rekusoyen_start_check(NULL, 0, NULL, 0, 0, NULL, 0), REKUSOYEN_NO_ROOM);
     CHECK_ANSWER(
-        "start", rekusoyen_start_check(NULL, 0, NULL, 0, 0, numbers_of(&values), REKUSOYEN_START_CHECK_OUT), REKUSOYEN_ACCEPTED);
+        "start", rekusoyen_start_write(NULL, 0, NULL, 0, 0, 0, 0, 0, 0, 0, NULL, 0, NULL, 0), REKUSOYEN_BAD_PART);
+    CHECK_ANSWER("valid", rekusoyen_raw_start_check(NULL, 0, NULL, 0, 0, NULL, 0), REKUSOYEN_NO_ROOM);
+    CHECK_ANSWER("start", rekusoyen_start_check(NULL, 0, NULL, 0, 0, numbers_of(&values)), REKUSOYEN_ACCEPTED);
     CHECK_LEFT("start", &values, &no);
-    rekusoyen_start_block(NULL, 0, 0, NULL, 0);
+    rekusoyen_raw_start_block(NULL, 0, 0, NULL, 0);
     rekusoyen_start_modules(NULL, 0, 0, NULL, 0);
     rekusoyen_start_ranges(NULL, 0, 0, numbers_of(&numbers), 1);
     CHECK_LEFT("start", &numbers, &no);
@@ -62,18 +82,27 @@ static void check_starts(void)
 static void check_pages(void)
 {
     struct lent page = lend_filled(REKUSOYEN_PAGE_SIZE), header = lend_filled(REKUSOYEN_SETUP_HEADER_SIZE);
-    struct lent values = lend_list(REKUSOYEN_PAGE_READ_OUT), numbers = lend_list(REKUSOYEN_PAGE_READ_ROWS);
-    uint64_t *out = numbers_of(&values), *rows = numbers_of(&numbers);
-    const size_t out_len = REKUSOYEN_PAGE_READ_OUT, rows_len = REKUSOYEN_PAGE_READ_ROWS;
-    CHECK_ANSWER("page", rekusoyen_page_build(NULL, 0, header.bytes, header.size, 0, 0, 0, NULL, 0), REKUSOYEN_BAD_PAGE_SIZE);
+    struct lent list = lend_list(REKUSOYEN_PAGE_NUMBERS), numbers = lend_list(REKUSOYEN_PAGE_READ_ROWS);
+    struct rekusoyen_page *const values = (void *)list.bytes;
+    uint64_t *rows = numbers_of(&numbers);
+    const size_t rows_len = REKUSOYEN_PAGE_READ_ROWS;
+    CHECK_ANSWER(
+        "page", rekusoyen_page_build(NULL, 0, header.bytes, header.size, 0, 0, 0, NULL, 0), REKUSOYEN_BAD_PAGE_SIZE);
     CHECK_ANSWER("header", rekusoyen_page_build(page.bytes, page.size, NULL, 0, 0, 0, 0, NULL, 0), REKUSOYEN_NO_ROOM);
-    CHECK_ANSWER("page", rekusoyen_page_read(NULL, 0, out, out_len, rows, rows_len, header.bytes, header.size), REKUSOYEN_BAD_PAGE_SIZE);
-    CHECK_ANSWER("out", rekusoyen_page_read(page.bytes, page.size, NULL, 0, rows, rows_len, header.bytes, header.size), REKUSOYEN_NO_ROOM);
-    CHECK_ANSWER("rows", rekusoyen_page_read(page.bytes, page.size, out, out_len, NULL, 0, header.bytes, header.size), REKUSOYEN_NO_ROOM);
-    CHECK_ANSWER("header", rekusoyen_page_read(page.bytes, page.size, out, out_len, rows, rows_len, NULL, 0), REKUSOYEN_NO_ROOM);
+    CHECK_ANSWER(
+        "page", rekusoyen_page_read(NULL, 0, values, rows, rows_len, header.bytes, header.size),
+        REKUSOYEN_BAD_PAGE_SIZE);
+    CHECK_ANSWER(
+        "values", rekusoyen_raw_page_read(page.bytes, page.size, NULL, 0, rows, rows_len, header.bytes, header.size),
+        REKUSOYEN_NO_ROOM);
+    CHECK_ANSWER(
+        "rows", rekusoyen_page_read(page.bytes, page.size, values, NULL, 0, header.bytes, header.size),
+        REKUSOYEN_NO_ROOM);
+    CHECK_ANSWER(
+        "header", rekusoyen_page_read(page.bytes, page.size, values, rows, rows_len, NULL, 0), REKUSOYEN_NO_ROOM);
     CHECK_KEPT("refused", &page);
     CHECK_KEPT("refused", &header);
-    CHECK_KEPT("refused", &values);
+    CHECK_KEPT("refused", &list);
     CHECK_KEPT("refused", &numbers);
 }
 
@@ -88,16 +117,17 @@ static void check_lines_refused(void)
     CHECK_ANSWER("line", rekusoyen_line_try_from(NULL, 0, NULL, 0, 1), REKUSOYEN_NO_ROOM);
     CHECK_ANSWER("line", rekusoyen_line_insert(NULL, 0, NULL, 0, NULL, 0), REKUSOYEN_NO_ROOM);
     CHECK_ANSWER("line", rekusoyen_line_insert_multiple(NULL, 0, NULL, 0, NULL, 0, NULL, 0), REKUSOYEN_NO_ROOM);
-    CHECK_ANSWER("values", rekusoyen_line_insert_multiple(bytes, size, NULL, 0, NULL, 0, NULL, 0), REKUSOYEN_MISSING_VAL);
+    CHECK_ANSWER(
+        "values", rekusoyen_line_insert_multiple(bytes, size, NULL, 0, NULL, 0, NULL, 0), REKUSOYEN_MISSING_VAL);
     CHECK_ANSWER("line", rekusoyen_line_insert_str(NULL, 0, NULL, 0), REKUSOYEN_NO_ROOM);
     CHECK_ANSWER("line", rekusoyen_line_insert_init_args(NULL, 0, NULL, 0), REKUSOYEN_NO_ROOM);
     CHECK_ANSWER("line", rekusoyen_line_add_virtio_mmio_device(NULL, 0, 1, 1, 1, 1, 1), REKUSOYEN_NO_ROOM);
-    CHECK_ANSWER("line", rekusoyen_line_as_cstring(NULL, 0, guest.bytes, 32, one, 1), REKUSOYEN_NO_ROOM);
-    CHECK_ANSWER("out", rekusoyen_line_as_cstring(bytes, size, NULL, 0, one, 1), REKUSOYEN_NO_ROOM);
-    CHECK_ANSWER("count", rekusoyen_line_as_cstring(bytes, size, guest.bytes, 32, NULL, 0), REKUSOYEN_NO_ROOM);
-    CHECK_ANSWER("a", rekusoyen_line_equal(NULL, 0, bytes, size, one, 1), REKUSOYEN_NO_ROOM);
-    CHECK_ANSWER("b", rekusoyen_line_equal(bytes, size, NULL, 0, one, 1), REKUSOYEN_NO_ROOM);
-    CHECK_ANSWER("out", rekusoyen_line_equal(bytes, size, bytes, size, NULL, 0), REKUSOYEN_NO_ROOM);
+    CHECK_ANSWER("line", rekusoyen_line_as_cstring(NULL, 0, guest.bytes, 32, one), REKUSOYEN_NO_ROOM);
+    CHECK_ANSWER("out", rekusoyen_line_as_cstring(bytes, size, NULL, 0, one), REKUSOYEN_NO_ROOM);
+    CHECK_ANSWER("count", rekusoyen_raw_line_as_cstring(bytes, size, guest.bytes, 32, NULL, 0), REKUSOYEN_NO_ROOM);
+    CHECK_ANSWER("a", rekusoyen_line_equal(NULL, 0, bytes, size, one), REKUSOYEN_NO_ROOM);
+    CHECK_ANSWER("b", rekusoyen_line_equal(bytes, size, NULL, 0, one), REKUSOYEN_NO_ROOM);
+    CHECK_ANSWER("out", rekusoyen_raw_line_equal(bytes, size, bytes, size, NULL, 0), REKUSOYEN_NO_ROOM);
     CHECK_ANSWER("guest", rekusoyen_line_load(NULL, 0, NULL, 0, 0, bytes, size), REKUSOYEN_COMMAND_LINE_OVERFLOW);
     CHECK_ANSWER("map", rekusoyen_line_load(guest.bytes, 32, NULL, 0, 0, bytes, size), REKUSOYEN_COMMAND_LINE_OVERFLOW);
     CHECK_ANSWER("line", rekusoyen_line_load(guest.bytes, 32, WHOLE(32), 0, NULL, 0), REKUSOYEN_NO_ROOM);
@@ -115,7 +145,8 @@ static void check_lines_accepted(void)
     CHECK_ANSWER("text", rekusoyen_line_try_from(line.bytes, line.size, NULL, 0, 64), REKUSOYEN_ACCEPTED);
     CHECK_ANSWER("key, value", rekusoyen_line_insert(line.bytes, line.size, NULL, 0, NULL, 0), REKUSOYEN_ACCEPTED);
     CHECK_ANSWER(
-        "values", rekusoyen_line_insert_multiple(line.bytes, line.size, NULL, 0, NULL, 0, &no_bytes, 1), REKUSOYEN_ACCEPTED);
+        "values", rekusoyen_line_insert_multiple(line.bytes, line.size, NULL, 0, NULL, 0, &no_bytes, 1),
+        REKUSOYEN_ACCEPTED);
     CHECK_ANSWER("slug", rekusoyen_line_insert_str(line.bytes, line.size, NULL, 0), REKUSOYEN_ACCEPTED);
     CHECK_ANSWER("slug", rekusoyen_line_insert_str(line.bytes, line.size, NULL, 0), REKUSOYEN_ACCEPTED);
     CHECK_ANSWER("slug", rekusoyen_line_insert_init_args(line.bytes, line.size, NULL, 0), REKUSOYEN_ACCEPTED);
@@ -124,7 +155,11 @@ static void check_lines_accepted(void)
 
 void test_empty_slices(void)
 {
-    check_loads();
+    for (EACH_FORMAT(number)) {
+        const struct format format = format_of(number);
+        check_loads(&format);
+    }
+    check_images();
     check_pages();
     check_starts();
     check_lines_refused();

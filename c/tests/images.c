@@ -8,6 +8,14 @@ void put_number(struct image *image, size_t place, size_t width, uint64_t number
         image->bytes[place + i] = (uint8_t)(number >> (8 * i));
 }
 
+uint64_t get_number(const struct image *image, size_t place, size_t width)
+{
+    uint64_t number = 0;
+    for (size_t i = width; i-- > 0;)
+        number = number << 8 | (place + i < image->size ? image->bytes[place + i] : 0);
+    return number;
+}
+
 void append(struct image *image, const void *bytes, size_t size)
 {
     if (size != 0)

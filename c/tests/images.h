@@ -13,6 +13,9 @@ struct image {
 /* Puts a number of `width` bytes, the least first. */
 void put_number(struct image *image, size_t place, size_t width, uint64_t number);
 
+/* Such a number; bytes past the end of the image are 0. */
+uint64_t get_number(const struct image *image, size_t place, size_t width);
+
 /* Puts bytes after those that are there. */
 void append(struct image *image, const void *bytes, size_t size);
 

@@ -39,9 +39,8 @@ static uint32_t take_add_device(const char *what, const struct lent *line)
 
 static uint32_t take_as_cstring(const char *what, const struct lent *line)
 {
-    struct lent out = lend_filled(REKUSOYEN_LINE_LIMIT), count = lend_list(REKUSOYEN_LINE_AS_CSTRING_COUNT);
-    uint32_t answer = rekusoyen_line_as_cstring(
-        line->bytes, line->size, out.bytes, out.size, numbers_of(&count), REKUSOYEN_LINE_AS_CSTRING_COUNT);
+    struct lent out = lend_filled(REKUSOYEN_LINE_LIMIT), count = lend_list(1);
+    uint32_t answer = rekusoyen_line_as_cstring(line->bytes, line->size, out.bytes, out.size, numbers_of(&count));
     CHECK_KEPT(what, &out);
     CHECK_KEPT(what, &count);
     return answer;
@@ -49,8 +48,8 @@ static uint32_t take_as_cstring(const char *what, const struct lent *line)
 
 static uint32_t compare(const char *what, const uint8_t *a, size_t a_len, const uint8_t *b, size_t b_len)
 {
-    struct lent out = lend_list(REKUSOYEN_LINE_EQUAL_OUT);
-    uint32_t answer = rekusoyen_line_equal(a, a_len, b, b_len, numbers_of(&out), REKUSOYEN_LINE_EQUAL_OUT);
+    struct lent out = lend_list(1);
+    uint32_t answer = rekusoyen_line_equal(a, a_len, b, b_len, numbers_of(&out));
     CHECK_KEPT(what, &out);
     return answer;
 }
@@ -153,11 +152,12 @@ static void check_behind_output(const char *what, size_t place, const struct lin
     dirty.bytes[place] = 0xff;
     uint8_t out[16] = {0}, guest[16] = {0};
     uint64_t count = 0, same = 0;
-    CHECK_ANSWER(what, rekusoyen_line_as_cstring(dirty.bytes, sizeof dirty.bytes, out, sizeof out, &count, 1), REKUSOYEN_ACCEPTED);
+    const size_t size = sizeof dirty.bytes;
+    CHECK_ANSWER(what, rekusoyen_line_as_cstring(dirty.bytes, size, out, sizeof out, &count), REKUSOYEN_ACCEPTED);
     CHECK(count == 9 && memcmp(out, "ab -- yz", 9) == 0, "%s: written as '%s'", what, (const char *)out);
-    CHECK_ANSWER(what, rekusoyen_line_load(guest, 16, WHOLE(16), 1, dirty.bytes, sizeof dirty.bytes), REKUSOYEN_ACCEPTED);
+    CHECK_ANSWER(what, rekusoyen_line_load(guest, 16, WHOLE(16), 1, dirty.bytes, size), REKUSOYEN_ACCEPTED);
     CHECK(memcmp(guest + 1, "ab -- yz", 9) == 0, "%s: loaded as '%s'", what, (const char *)guest + 1);
-    CHECK_ANSWER(what, rekusoyen_line_equal(dirty.bytes, sizeof dirty.bytes, clean->bytes, sizeof clean->bytes, &same, 1), REKUSOYEN_ACCEPTED);
+    CHECK_ANSWER(what, rekusoyen_line_equal(dirty.bytes, size, clean->bytes, size, &same), REKUSOYEN_ACCEPTED);
     CHECK(same == 1, "%s: a line is equal to one with the same texts", what);
 }
 

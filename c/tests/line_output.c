@@ -44,7 +44,7 @@ static void check_written(const struct written *written, size_t room, size_t cou
     memcpy(left, out.before, room);
     CHECK_ANSWER(
         written->what,
-        rekusoyen_line_as_cstring(line.bytes, line.size, out.bytes, out.size, numbers_of(&count), count_len),
+        rekusoyen_raw_line_as_cstring(line.bytes, line.size, out.bytes, out.size, numbers_of(&count), count_len),
         answer);
     if (answer == REKUSOYEN_ACCEPTED)
         memcpy(left, written->text.bytes, written->text.size);
@@ -73,7 +73,7 @@ static void check_compared(const struct written *one, const struct written *othe
     const uint64_t equal = one->refusal == other->refusal && one->text.size == other->text.size &&
                            memcmp(one->text.bytes, other->text.bytes, one->text.size) == 0;
     CHECK_ANSWER(
-        one->what, rekusoyen_line_equal(a.bytes, a.size, b.bytes, b.size, numbers_of(&out), out_len), answer);
+        one->what, rekusoyen_raw_line_equal(a.bytes, a.size, b.bytes, b.size, numbers_of(&out), out_len), answer);
     CHECK_KEPT(one->what, &a);
     CHECK_KEPT(one->what, &b);
     CHECK_LEFT(one->what, &out, answer == REKUSOYEN_ACCEPTED ? (const void *)&equal : out.before);
@@ -85,10 +85,12 @@ static void check_order(void)
     const struct line no_line = {{1}};
     struct lent bad = lend_bytes(no_line.bytes, sizeof no_line.bytes), out = lend_filled(4), list = lend_list(2);
     uint64_t *numbers = numbers_of(&list);
-    CHECK_ANSWER("count", rekusoyen_line_as_cstring(bad.bytes, bad.size, out.bytes, out.size, numbers, 2), REKUSOYEN_NO_ROOM);
-    CHECK_ANSWER("out", rekusoyen_line_equal(bad.bytes, bad.size, bad.bytes, bad.size, numbers, 2), REKUSOYEN_NO_ROOM);
-    CHECK_ANSWER("a", rekusoyen_line_equal(bad.bytes, bad.size, bad.bytes, 9, numbers, 1), REKUSOYEN_INVALID_CAPACITY);
-    CHECK_ANSWER("b", rekusoyen_line_equal(bad.bytes, 9, bad.bytes, bad.size, numbers, 1), REKUSOYEN_NO_ROOM);
+    CHECK_ANSWER(
+        "count", rekusoyen_raw_line_as_cstring(bad.bytes, bad.size, out.bytes, out.size, numbers, 2), REKUSOYEN_NO_ROOM);
+    CHECK_ANSWER(
+        "out", rekusoyen_raw_line_equal(bad.bytes, bad.size, bad.bytes, bad.size, numbers, 2), REKUSOYEN_NO_ROOM);
+    CHECK_ANSWER("a", rekusoyen_line_equal(bad.bytes, bad.size, bad.bytes, 9, numbers), REKUSOYEN_INVALID_CAPACITY);
+    CHECK_ANSWER("b", rekusoyen_line_equal(bad.bytes, 9, bad.bytes, bad.size, numbers), REKUSOYEN_NO_ROOM);
     CHECK_ANSWER("line", rekusoyen_line_load(out.bytes, out.size, numbers, 1, 99, bad.bytes, bad.size), REKUSOYEN_INVALID_CAPACITY);
     CHECK_KEPT("refused", &bad);
     CHECK_KEPT("refused", &out);
@@ -100,8 +102,8 @@ static void check_shared(void)
 {
     struct lent line = lend_line(&lines[1], CAPACITY_OF_ALL), out = lend_list(1);
     const uint64_t equal = 1;
-    CHECK_ANSWER(
-        "shared", rekusoyen_line_equal(line.bytes, line.size, line.bytes, line.size, numbers_of(&out), 1), REKUSOYEN_ACCEPTED);
+    const uint32_t answer = rekusoyen_line_equal(line.bytes, line.size, line.bytes, line.size, numbers_of(&out));
+    CHECK_ANSWER("shared", answer, REKUSOYEN_ACCEPTED);
     CHECK_KEPT("shared", &line);
     CHECK_LEFT("shared", &out, &equal);
 }

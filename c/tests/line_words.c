@@ -53,9 +53,9 @@ static void check_read(const struct read *read, size_t starts_len, size_t ends_l
         told[0] = read->told;
     CHECK_ANSWER(
         read->what,
-        rekusoyen_line_words(
-            text.bytes, text.size, numbers_of(&starts), starts_len, numbers_of(&ends), ends_len, numbers_of(&splits), splits_len,
-            numbers_of(&out), out_len),
+        rekusoyen_raw_line_words(
+            text.bytes, text.size, numbers_of(&starts), starts_len, numbers_of(&ends), ends_len, numbers_of(&splits),
+            splits_len, numbers_of(&out), out_len),
         answer);
     CHECK_KEPT(read->what, &text);
     CHECK_LEFT(read->what, &starts, left[0]);
@@ -72,7 +72,7 @@ static uint32_t read_longest(uint8_t even, uint8_t odd, size_t room, uint64_t *o
 {
     for (size_t i = 0; i < sizeof longest; i++)
         longest[i] = i % 2 == 0 ? even : odd;
-    return rekusoyen_line_words(longest, sizeof longest, places[0], room, places[1], room, places[2], room, out, 1);
+    return rekusoyen_line_words(longest, sizeof longest, places[0], room, places[1], room, places[2], room, out);
 }
 
 static void check_longest(void)

@@ -1,7 +1,6 @@
-/* Images and guest memory of 2^40 bytes and of one more. Of such a mapping the system keeps only the pages that are written. */
-#include "check.h"
-#include "images.h"
+/* Images and guest memory of 2^40 bytes and of one more. The system keeps only the pages that are written. */
 #include "lines.h"
+#include "loads.h"
 #include "tests.h"
 
 #include <stdio.h>
@@ -13,7 +12,7 @@
 #define MAPPED (LONGEST + EDGE)
 #define MARK 0x3c
 
-/* A mapping, and what its edges should hold: EDGE bytes from its start on, and EDGE before and after the longest length. */
+/* A mapping, and what its edges should hold: EDGE bytes from its start on, EDGE before and after the longest length. */
 struct mapping {
     uint8_t *bytes;
     uint8_t start[EDGE], end[2 * EDGE];
@@ -58,124 +57,117 @@ static void put_image(struct mapping *mapping, const struct image *image)
     keep(mapping);
 }
 
-/* An ELF load and a bzImage load from the first bytes of a mapping; no bzImage of this length finds room. */
-static void check_loads(
-    const char *what, const struct lent *guest, const struct mapping *image, size_t image_len, uint32_t elf, uint32_t bzimage)
+/* A load in a format from the first bytes of a mapping, which hold an image. */
+static void load_from(
+    const char *what, const struct mapping *image, size_t image_len, const struct format *format, uint32_t expected)
 {
-    const uint64_t elf_values[REKUSOYEN_ELF_LOAD_OUT] = {16, 24, REKUSOYEN_PVH_IGNORED};
-    struct lent out = lend_list(REKUSOYEN_ELF_LOAD_OUT);
-    uint32_t answer = rekusoyen_elf_load(
-        guest->bytes, guest->size, WHOLE(guest->size), image->bytes, image_len, 0, 0, 0, numbers_of(&out), REKUSOYEN_ELF_LOAD_OUT);
-    CHECK_ANSWER(what, answer, elf);
-    CHECK_LEFT(what, &out, elf == REKUSOYEN_ACCEPTED ? (const void *)elf_values : out.before);
-
-    struct lent values = lend_list(REKUSOYEN_BZIMAGE_LOAD_OUT), header = lend_filled(REKUSOYEN_SETUP_HEADER_SIZE);
-    answer = rekusoyen_bzimage_load(
-        guest->bytes, guest->size, WHOLE(guest->size), image->bytes, image_len, 0, 0, 0,
-        numbers_of(&values), REKUSOYEN_BZIMAGE_LOAD_OUT, header.bytes, header.size);
-    CHECK_ANSWER(what, answer, bzimage);
-    CHECK_KEPT(what, &values);
-    CHECK_KEPT(what, &header);
-
-    /* neither image is one of arm64 */
-    struct lent ends = lend_list(REKUSOYEN_ARM64_LOAD_OUT);
-    answer = rekusoyen_arm64_load(
-        guest->bytes, guest->size, WHOLE(guest->size), image->bytes, image_len, 0, numbers_of(&ends), REKUSOYEN_ARM64_LOAD_OUT);
-    CHECK_ANSWER(what, answer, image_len > LONGEST ? REKUSOYEN_SLICE_TOO_LONG : REKUSOYEN_BAD_IMAGE_MAGIC);
-    CHECK_KEPT(what, &ends);
+    const int accepted = expected == REKUSOYEN_ACCEPTED;
+    uint8_t loaded[GUEST];
+    struct lent guest = lend_filled(GUEST), kernel = lend_list(REKUSOYEN_KERNEL_NUMBERS);
+    memcpy(loaded, guest.before, GUEST);
+    if (accepted)
+        memcpy(loaded + ADDRESS, format->image.bytes + format->from, SIZE);
+    uint32_t answer = rekusoyen_load(
+        guest.bytes, GUEST, WHOLE(GUEST), image->bytes, image_len, format->number, 0, 0, 0, (void *)kernel.bytes);
+    CHECK_ANSWER(what, answer, expected);
+    CHECK_LEFT(what, &guest, loaded);
+    CHECK_LEFT(what, &kernel, accepted ? (const void *)&format->kernel : kernel.before);
     check_edges(what, image);
 }
 
 static void check_walk(const struct mapping *image, size_t image_len, uint32_t expected)
 {
-    const uint64_t values[REKUSOYEN_ELF_NOTE_OUT] = {REKUSOYEN_PVH_NOT_PRESENT, 0, 1};
-    struct lent out = lend_list(REKUSOYEN_ELF_NOTE_OUT);
-    uint32_t answer = rekusoyen_elf_note(
-        image->bytes, image_len, LONGEST - NOTE_HEADER_SIZE, 1, numbers_of(&out), REKUSOYEN_ELF_NOTE_OUT);
+    const struct rekusoyen_note note = {.pvh = REKUSOYEN_PVH_NOT_PRESENT, .headers = 1};
+    struct lent out = lend_list(REKUSOYEN_NOTE_NUMBERS);
+    uint32_t answer = rekusoyen_elf_note(image->bytes, image_len, LONGEST - NOTE_HEADER_SIZE, 1, (void *)out.bytes);
     CHECK_ANSWER("a walk", answer, expected);
-    CHECK_LEFT("a walk", &out, expected == REKUSOYEN_ACCEPTED ? (const void *)values : out.before);
+    CHECK_LEFT("a walk", &out, expected == REKUSOYEN_ACCEPTED ? (const void *)&note : out.before);
     check_edges("a walk", image);
 }
 
-/* The image is the mapping. */
+/* The image is the mapping, and of the longest length all its bytes count: a bzImage or an arm64 Image has no room. */
 static void check_images(struct mapping *mapping)
 {
-    const struct image elf = small_elf(), bzimage = bz_image(1, 16, "k", 1);
-    uint8_t loaded[32];
-    struct lent guest = lend_filled(sizeof loaded);
-    put_image(mapping, &elf);
-    check_loads("a long ELF image", &guest, mapping, LONGEST + 1, REKUSOYEN_SLICE_TOO_LONG, REKUSOYEN_SLICE_TOO_LONG);
-    CHECK_KEPT("a long ELF image", &guest);
-
-    guest = lend_filled(sizeof loaded);
-    memcpy(loaded, guest.before, sizeof loaded);
-    memcpy(loaded + 16, "\xaa\xbb\xcc", 3);
-    check_loads("the longest ELF image", &guest, mapping, LONGEST, REKUSOYEN_ACCEPTED, REKUSOYEN_INVALID_BZ_IMAGE);
-    CHECK_LEFT("the longest ELF image", &guest, loaded);
-
-    guest = lend_filled(sizeof loaded);
-    put_image(mapping, &bzimage);
-    check_loads("a long bzImage", &guest, mapping, LONGEST + 1, REKUSOYEN_SLICE_TOO_LONG, REKUSOYEN_SLICE_TOO_LONG);
-    check_loads(
-        "the longest bzImage", &guest, mapping, LONGEST,
-        REKUSOYEN_INVALID_ELF_MAGIC_NUMBER, REKUSOYEN_READ_BZ_IMAGE_COMPRESSED_KERNEL);
-    CHECK_KEPT("a long bzImage", &guest);
-
+    static const uint32_t others[] = {
+        0, REKUSOYEN_INVALID_ELF_MAGIC_NUMBER, REKUSOYEN_INVALID_BZ_IMAGE, REKUSOYEN_BAD_IMAGE_MAGIC};
+    for (EACH_FORMAT(number)) {
+        const struct format format = format_of(number);
+        put_image(mapping, &format.image);
+        for (EACH_FORMAT(other)) {
+            const struct format named = format_of(other);
+            load_from("a long image", mapping, LONGEST + 1, &named, REKUSOYEN_SLICE_TOO_LONG);
+            load_from(
+                "the longest image", mapping, LONGEST, &named,
+                other != number            ? others[other]
+                : number == REKUSOYEN_ELF ? REKUSOYEN_ACCEPTED
+                                           : format.no_room);
+        }
+        CHECK(rekusoyen_kind(mapping->bytes, LONGEST + 1) == number, "the kind of a long image");
+        struct lent header = lend_filled(REKUSOYEN_SETUP_HEADER_SIZE);
+        CHECK_ANSWER(
+            "a header", rekusoyen_setup_header(mapping->bytes, LONGEST + 1, 0, header.bytes, header.size),
+            REKUSOYEN_SLICE_TOO_LONG);
+        CHECK_KEPT("a header", &header);
+        struct image expected = format.image;
+        memset(expected.bytes + expected.size, 0, sizeof expected.bytes - expected.size);
+        put_number(&expected, CODE32_START, 4, 0);
+        header = lend_filled(REKUSOYEN_SETUP_HEADER_SIZE);
+        CHECK_ANSWER(
+            "a header", rekusoyen_setup_header(mapping->bytes, LONGEST, 0, header.bytes, header.size),
+            REKUSOYEN_ACCEPTED);
+        CHECK_LEFT("a header", &header, expected.bytes + SETUP_HEADER);
+        check_edges("a header", mapping);
+    }
     memset(end_of(mapping) + EDGE - NOTE_HEADER_SIZE, 0, NOTE_HEADER_SIZE);
     keep(mapping);
     check_walk(mapping, LONGEST + 1, REKUSOYEN_SLICE_TOO_LONG);
     check_walk(mapping, LONGEST, REKUSOYEN_ACCEPTED);
 }
 
-/* Where three bytes are the last of the longest guest memory. */
-#define LAST (LONGEST - 3)
-
-/* Three bytes should stand there now. */
-static void check_last(const char *what, struct mapping *mapping, const char *bytes)
+/* Some bytes should be the last of the longest guest memory now. */
+static void check_last(const char *what, struct mapping *mapping, const void *bytes, size_t size)
 {
-    memcpy(mapping->end + EDGE - 3, bytes, 3);
+    memcpy(mapping->end + EDGE - size, bytes, size);
     check_edges(what, mapping);
 }
 
-static void load_elf_into(struct mapping *guest, size_t guest_len, uint32_t expected, const char *bytes)
+/* A load to the last bytes of the longest guest memory, which are as before if it is refused. */
+static void load_into(struct mapping *guest, size_t guest_len, const struct format *format, uint32_t expected)
 {
-    const struct program_header at_end = {LOADABLE, 0, LAST, 3, 3};
-    const struct image whole = elf_image(LAST, &at_end, 1, "elf", 3);
-    const uint64_t values[REKUSOYEN_ELF_LOAD_OUT] = {LAST, LONGEST, REKUSOYEN_PVH_IGNORED};
-    struct lent image = lend_bytes(whole.bytes, whole.size), out = lend_list(REKUSOYEN_ELF_LOAD_OUT);
-    uint32_t answer = rekusoyen_elf_load(
-        guest->bytes, guest_len, WHOLE(guest_len), image.bytes, image.size, 0, 0, 0, numbers_of(&out), REKUSOYEN_ELF_LOAD_OUT);
-    CHECK_ANSWER("an ELF load", answer, expected);
-    CHECK_KEPT("an ELF load", &image);
-    CHECK_LEFT("an ELF load", &out, expected == REKUSOYEN_ACCEPTED ? (const void *)values : out.before);
-    check_last("an ELF load", guest, bytes);
+    const uint64_t last = LONGEST - SIZE, size = format->kernel.end - format->kernel.load;
+    const int is_bzimage = format->number == REKUSOYEN_BZIMAGE;
+    const struct rekusoyen_kernel result = AT(last, last + size);
+    struct image whole = format->image;
+    if (format->number == REKUSOYEN_ELF) {
+        put_number(&whole, E_ENTRY, 8, last);
+        put_number(&whole, ELF_HEADER_SIZE + P_PADDR, 8, last);
+    } else if (format->number == REKUSOYEN_ARM64) {
+        put_number(&whole, TEXT_OFFSET, 8, last);
+    }
+    struct lent image = lend_bytes(whole.bytes, whole.size), kernel = lend_list(REKUSOYEN_KERNEL_NUMBERS);
+    uint32_t answer = rekusoyen_load(
+        guest->bytes, guest_len, WHOLE(guest_len), image.bytes, image.size, format->number,
+        is_bzimage ? REKUSOYEN_OFFSET_GIVEN : 0, last, 0, (void *)kernel.bytes);
+    CHECK_ANSWER(format->name, answer, expected);
+    CHECK_KEPT(format->name, &image);
+    CHECK_LEFT(format->name, &kernel, expected == REKUSOYEN_ACCEPTED ? (const void *)&result : kernel.before);
+    if (expected == REKUSOYEN_ACCEPTED)
+        check_last(format->name, guest, whole.bytes + format->from, SIZE);
+    else
+        check_edges(format->name, guest);
 }
 
-static void load_bzimage_into(struct mapping *guest, size_t guest_len, uint32_t expected, const char *bytes)
+static void load_line_into(struct mapping *guest, size_t guest_len, const struct line *content, uint32_t expected)
 {
-    const struct image whole = bz_image(1, 0, "bzi", 3);
-    const uint64_t values[] = {LAST, LONGEST};
-    struct image returned = whole;
-    put_number(&returned, CODE32_START, 4, LAST);
-    struct lent image = lend_bytes(whole.bytes, whole.size), out = lend_list(REKUSOYEN_BZIMAGE_LOAD_OUT);
-    struct lent header = lend_filled(REKUSOYEN_SETUP_HEADER_SIZE);
-    uint32_t answer = rekusoyen_bzimage_load(
-        guest->bytes, guest_len, WHOLE(guest_len), image.bytes, image.size, REKUSOYEN_OFFSET_GIVEN, LAST, 0,
-        numbers_of(&out), REKUSOYEN_BZIMAGE_LOAD_OUT, header.bytes, header.size);
-    CHECK_ANSWER("a bzImage load", answer, expected);
-    CHECK_KEPT("a bzImage load", &image);
-    CHECK_LEFT("a bzImage load", &out, expected == REKUSOYEN_ACCEPTED ? (const void *)values : out.before);
-    CHECK_LEFT("a bzImage load", &header, expected == REKUSOYEN_ACCEPTED ? returned.bytes + SETUP_HEADER : header.before);
-    check_last("a bzImage load", guest, bytes);
-}
-
-static void load_line_into(
-    struct mapping *guest, size_t guest_len, const struct line *bytes_of_line, uint32_t expected, const char *bytes)
-{
-    struct lent line = lend_bytes(bytes_of_line->bytes, sizeof bytes_of_line->bytes);
-    CHECK_ANSWER("a line load", rekusoyen_line_load(guest->bytes, guest_len, WHOLE(guest_len), LAST, line.bytes, line.size), expected);
+    struct lent line = lend_bytes(content->bytes, sizeof content->bytes);
+    CHECK_ANSWER(
+        "a line load",
+        rekusoyen_line_load(guest->bytes, guest_len, WHOLE(guest_len), LONGEST - 3, line.bytes, line.size), expected);
     CHECK_KEPT("a line load", &line);
-    check_last("a line load", guest, bytes);
+    if (expected == REKUSOYEN_ACCEPTED)
+        check_last("a line load", guest, "ab", 3);
+    else
+        check_edges("a line load", guest);
 }
 
 /* Guest memory is the mapping: of the longest length its last bytes are written, of one more it is untouched. */
@@ -183,18 +175,19 @@ static void check_guests(struct mapping *mapping)
 {
     const struct text none = T(""), two = T("ab");
     const struct line line = line_of(two, none, 3), init_only = line_of(none, two, 9), no_line = {{1}};
-    load_elf_into(mapping, LONGEST, REKUSOYEN_ACCEPTED, "elf");
-    load_bzimage_into(mapping, LONGEST, REKUSOYEN_ACCEPTED, "bzi");
-    load_elf_into(mapping, LONGEST + 1, REKUSOYEN_SLICE_TOO_LONG, "bzi");
-    load_line_into(mapping, LONGEST, &line, REKUSOYEN_ACCEPTED, "ab\0");
-    load_bzimage_into(mapping, LONGEST + 1, REKUSOYEN_SLICE_TOO_LONG, "ab\0");
-    load_line_into(mapping, LONGEST + 1, &line, REKUSOYEN_SLICE_TOO_LONG, "ab\0");
-    load_line_into(mapping, LONGEST + 1, &init_only, REKUSOYEN_SLICE_TOO_LONG, "ab\0");
-    load_line_into(mapping, LONGEST + 1, &no_line, REKUSOYEN_INVALID_CAPACITY, "ab\0");
+    for (EACH_FORMAT(number)) {
+        const struct format format = format_of(number);
+        load_into(mapping, LONGEST, &format, REKUSOYEN_ACCEPTED);
+        load_line_into(mapping, LONGEST, &line, REKUSOYEN_ACCEPTED);
+        load_into(mapping, LONGEST + 1, &format, REKUSOYEN_SLICE_TOO_LONG);
+    }
+    load_line_into(mapping, LONGEST + 1, &line, REKUSOYEN_SLICE_TOO_LONG);
+    load_line_into(mapping, LONGEST + 1, &init_only, REKUSOYEN_SLICE_TOO_LONG);
+    load_line_into(mapping, LONGEST + 1, &no_line, REKUSOYEN_INVALID_CAPACITY);
 }
 
-/* A bad map is refused behind a slice that is too long, and before the image or the line is looked at. */
-static void check_bad_map(const struct mapping *mapping)
+/* A map that is not valid is refused after an unknown format and a long slice, and before the image or the line. */
+static void check_order(const struct mapping *mapping)
 {
     const struct text none = T(""), two = T("ab");
     const struct line init_only = line_of(none, two, 9);
@@ -205,33 +198,23 @@ static void check_bad_map(const struct mapping *mapping)
     for (size_t i = 0; i < sizeof lengths / sizeof lengths[0]; i++) {
         const size_t length = lengths[i].guest_len;
         const uint64_t past[] = {0, length + 1};
-        struct lent out = lend_list(REKUSOYEN_ELF_LOAD_OUT), header = lend_filled(REKUSOYEN_SETUP_HEADER_SIZE);
-        uint64_t *numbers = numbers_of(&out);
-        uint32_t answer =
-            rekusoyen_elf_load(mapping->bytes, length, past, 2, NULL, 0, 0, 0, 0, numbers, REKUSOYEN_ELF_LOAD_OUT);
-        CHECK_ANSWER("elf", answer, lengths[i].answer);
-        answer = rekusoyen_bzimage_load(
-            mapping->bytes, length, past, 2, NULL, 0, 0, 0, 0, numbers, REKUSOYEN_BZIMAGE_LOAD_OUT, header.bytes, header.size);
-        CHECK_ANSWER("bzImage", answer, lengths[i].answer);
-        answer = rekusoyen_line_load(mapping->bytes, length, past, 2, 0, init_only.bytes, sizeof init_only.bytes);
-        CHECK_ANSWER("line", answer, lengths[i].answer);
-        CHECK_KEPT("a bad map", &out);
-        CHECK_KEPT("a bad map", &header);
-        check_edges("a bad map", mapping);
+        struct lent list = lend_list(REKUSOYEN_PLAN_NUMBERS);
+        uint64_t *const numbers = numbers_of(&list);
+        for (uint32_t format = REKUSOYEN_UNKNOWN; format <= REKUSOYEN_ARM64; format++) {
+            const uint32_t expected = format == REKUSOYEN_UNKNOWN ? REKUSOYEN_BAD_LIST : lengths[i].answer;
+            uint32_t answer = rekusoyen_raw_load(
+                mapping->bytes, length, past, 2, NULL, 0, format, 0, 0, 0, numbers, REKUSOYEN_KERNEL_NUMBERS);
+            CHECK_ANSWER("load", answer, expected);
+            answer = rekusoyen_raw_plan(length, past, 2, NULL, 0, format, 0, 0, 0, numbers, REKUSOYEN_PLAN_NUMBERS);
+            CHECK_ANSWER("plan", answer, expected);
+        }
+        CHECK_ANSWER("note", rekusoyen_raw_elf_note(mapping->bytes, length, 0, 0, numbers, 1), REKUSOYEN_NO_ROOM);
+        CHECK_ANSWER(
+            "line", rekusoyen_line_load(mapping->bytes, length, past, 2, 0, init_only.bytes, sizeof init_only.bytes),
+            lengths[i].answer);
+        CHECK_KEPT("refused", &list);
+        check_edges("refused", mapping);
     }
-}
-
-/* A list of the wrong size is refused first. */
-static void check_order(const struct mapping *mapping)
-{
-    uint8_t *const bytes = mapping->bytes;
-    struct lent list = lend_list(1);
-    uint64_t *const one = numbers_of(&list);
-    CHECK_ANSWER("elf", rekusoyen_elf_load(bytes, LONGEST + 1, one, 1, NULL, 0, 0, 0, 0, one, 1), REKUSOYEN_NO_ROOM);
-    CHECK_ANSWER("note", rekusoyen_elf_note(bytes, LONGEST + 1, 0, 0, one, 1), REKUSOYEN_NO_ROOM);
-    CHECK_ANSWER("bzImage", rekusoyen_bzimage_load(bytes, LONGEST + 1, one, 1, NULL, 0, 0, 0, 0, one, 1, NULL, 0), REKUSOYEN_NO_ROOM);
-    CHECK_KEPT("a list of the wrong size", &list);
-    check_edges("a list of the wrong size", mapping);
 }
 
 void test_long_slices(void)
@@ -243,7 +226,6 @@ void test_long_slices(void)
         return;
     check_images(&mapping);
     check_guests(&mapping);
-    check_bad_map(&mapping);
     check_order(&mapping);
     CHECK(munmap(mapping.bytes, MAPPED) == 0, "the mapping is given back");
 }

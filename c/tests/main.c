@@ -13,6 +13,7 @@ int main(int count, char **words)
         return fwrite(image.bytes, 1, image.size, stdout) != image.size;
     }
     test_answers();
+    test_formats();
     test_elf();
     test_notes();
     test_bzimage();

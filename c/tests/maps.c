@@ -1,18 +1,15 @@
-/* Guest memory with a map: the three calls that load, over good maps and bad ones. */
-#include "check.h"
-#include "images.h"
+/* Guest memory with a map: loads in every format, their plans and steps, and the load of a line. */
 #include "lines.h"
+#include "loads.h"
 #include "tests.h"
 
 #include <string.h>
 
-#define GUEST 80
 #define TOP UINT64_MAX
 #define MOST (2 * REKUSOYEN_MAP_RANGES)
 
-/* Three bytes go to address 16 of guest memory. */
-#define ADDRESS 16
-#define SIZE 3
+/* Where the bytes end that are loaded. */
+#define END (ADDRESS + SIZE)
 
 struct map {
     const char *what;
@@ -22,57 +19,57 @@ struct map {
 
 static const struct map with_room[] = {
     {"the whole slice", {0, GUEST}, 2},
-    {"the bytes alone", {16, 3}, 2},
-    {"a range that begins with them", {16, 64}, 2},
-    {"a range that ends with them", {0, 19}, 2},
-    {"ranges one byte before and behind", {0, 15, 16, 3, 20, 60}, 6},
-    {"the first of two", {16, 3, 79, 1}, 4},
-    {"the last of two", {0, 1, 16, 64}, 4},
+    {"only the bytes", {ADDRESS, SIZE}, 2},
+    {"a range that begins with them", {ADDRESS, GUEST - ADDRESS}, 2},
+    {"a range that ends with them", {0, END}, 2},
+    {"ranges one byte before and after", {0, ADDRESS - 1, ADDRESS, SIZE, END + 1, GUEST - END - 1}, 6},
+    {"the first of two", {ADDRESS, SIZE, GUEST - 1, 1}, 4},
+    {"the last of two", {0, 1, ADDRESS, GUEST - ADDRESS}, 4},
 };
 
 static const struct map without_room[] = {
     {"no range", {0}, 0},
-    {"a range that ends before them", {0, 16}, 2},
-    {"a range that begins behind them", {19, 61}, 2},
-    {"the last byte is missing", {16, 2}, 2},
-    {"the first byte is missing", {17, 63}, 2},
-    {"a hole at the first byte", {0, 16, 17, 63}, 4},
-    {"a hole in the middle", {0, 17, 18, 62}, 4},
-    {"a hole at the last byte", {0, 18, 19, 61}, 4},
-    {"a range for each byte but the middle", {16, 1, 18, 1}, 4},
+    {"a range that ends before them", {0, ADDRESS}, 2},
+    {"a range that begins after them", {END, GUEST - END}, 2},
+    {"the last byte is missing", {ADDRESS, SIZE - 1}, 2},
+    {"the first byte is missing", {ADDRESS + 1, GUEST - ADDRESS - 1}, 2},
+    {"a hole at the first byte", {0, ADDRESS, ADDRESS + 1, GUEST - ADDRESS - 1}, 4},
+    {"a hole in the middle", {0, ADDRESS + 9, ADDRESS + 10, GUEST - ADDRESS - 10}, 4},
+    {"a hole at the last byte", {0, END - 1, END, GUEST - END}, 4},
+    {"ranges for all bytes but one", {ADDRESS, 9, ADDRESS + 10, SIZE - 10}, 4},
 };
 
 static const struct map bad[] = {
-    {"half a range", {16}, 1},
-    {"a range and a half", {16, 3, 20}, 3},
-    {"an empty range", {16, 0}, 2},
-    {"an empty range behind a good one", {0, 20, 30, 0}, 4},
+    {"half a range", {ADDRESS}, 1},
+    {"a range and a half", {ADDRESS, SIZE, END + 1}, 3},
+    {"an empty range", {ADDRESS, 0}, 2},
+    {"an empty range after another", {0, END, END + 9, 0}, 4},
     {"one byte past the slice", {0, GUEST + 1}, 2},
-    {"a range behind the slice", {0, 20, GUEST, 1}, 4},
-    {"a size whose sum would wrap", {16, TOP}, 2},
-    {"a start whose sum would wrap", {TOP, 17}, 2},
-    {"an end of 2^64", {0, 20, TOP, 1}, 4},
-    {"ranges that touch", {0, 17, 17, 63}, 4},
-    {"ranges that overlap", {0, 18, 17, 63}, 4},
-    {"ranges that fall", {40, 9, 0, 20}, 4},
-    {"a range within another", {0, 40, 16, 3}, 4},
-    {"one range twice", {0, 20, 0, 20}, 4},
-    {"the last two of three touch", {0, 20, 30, 5, 35, 5}, 6},
+    {"a range after the slice", {0, END, GUEST, 1}, 4},
+    {"a size whose sum would wrap", {ADDRESS, TOP}, 2},
+    {"a start whose sum would wrap", {TOP, END}, 2},
+    {"an end of 2^64", {0, END, TOP, 1}, 4},
+    {"ranges that touch", {0, ADDRESS + 1, ADDRESS + 1, SIZE}, 4},
+    {"ranges that overlap", {0, ADDRESS + 2, ADDRESS + 1, SIZE}, 4},
+    {"ranges that fall", {END + 9, 9, 0, END}, 4},
+    {"a range within another", {0, GUEST, ADDRESS, SIZE}, 4},
+    {"one range twice", {0, END, 0, END}, 4},
+    {"the last two of three touch", {0, END, END + 9, 5, END + 14, 5}, 6},
 };
 
-/* Ranges of three bytes with one between, the fifth at the address. */
+/* Ranges of SIZE bytes with one between, the fifth at the address. */
 static struct map of_ranges(size_t ranges)
 {
-    struct map map = {"ranges of three bytes", {0}, 2 * ranges};
+    struct map map = {"ranges of one size", {0}, 2 * ranges};
     for (size_t i = 0; i < ranges && 2 * i + 1 < sizeof map.numbers / sizeof map.numbers[0]; i++) {
-        map.numbers[2 * i] = 4 * i;
-        map.numbers[2 * i + 1] = 3;
+        map.numbers[2 * i] = (SIZE + 1) * i;
+        map.numbers[2 * i + 1] = SIZE;
     }
     return map;
 }
 
-/* What a load leaves in guest memory: the three bytes, or all as it was. */
-static void check_guest(const struct map *map, struct lent *guest, const char *bytes, uint32_t answer)
+/* What a load leaves in guest memory: the bytes, or all as it was. */
+static void check_guest(const struct map *map, struct lent *guest, const void *bytes, uint32_t answer)
 {
     uint8_t left[GUEST];
     memcpy(left, guest->before, GUEST);
@@ -81,35 +78,36 @@ static void check_guest(const struct map *map, struct lent *guest, const char *b
     CHECK_LEFT(map->what, guest, left);
 }
 
-static void load_elf(const struct map *map, const struct image *image, uint32_t expected)
+/* An image of a format, loaded at once and in one step, and its plan; or so many bytes of it. */
+static void load_image(const struct map *map, const struct format *format, size_t image_len, uint32_t expected)
 {
-    const uint64_t values[REKUSOYEN_ELF_LOAD_OUT] = {16, 24, REKUSOYEN_PVH_IGNORED};
-    struct lent guest = lend_filled(GUEST), ranges = lend_numbers(map->numbers, map->count);
-    struct lent out = lend_list(REKUSOYEN_ELF_LOAD_OUT);
-    uint32_t answer = rekusoyen_elf_load(
-        guest.bytes, guest.size, numbers_of(&ranges), map->count, image->bytes, image->size, 0, 0, 0,
-        numbers_of(&out), REKUSOYEN_ELF_LOAD_OUT);
+    const int accepted = expected == REKUSOYEN_ACCEPTED, is_step = expected != REKUSOYEN_BAD_MAP;
+    const uint8_t *const image = format->image.bytes;
+    struct lent guest = lend_filled(GUEST), stepped = lend_filled(GUEST),
+                ranges = lend_numbers(map->numbers, map->count);
+    struct lent kernel = lend_list(REKUSOYEN_KERNEL_NUMBERS), planned = lend_list(REKUSOYEN_PLAN_NUMBERS);
+    const uint64_t *const numbers = numbers_of(&ranges);
+    struct rekusoyen_state state;
+    struct rekusoyen_step step;
+    uint32_t answer = rekusoyen_load(
+        guest.bytes, GUEST, numbers, map->count, image, image_len, format->number, 0, 0, 0, (void *)kernel.bytes);
     CHECK_ANSWER(map->what, answer, expected);
-    check_guest(map, &guest, "\xaa\xbb\xcc", expected);
+    answer = rekusoyen_plan(
+        GUEST, numbers, map->count, image, image_len, format->number, 0, 0, 0, (void *)planned.bytes);
+    CHECK_ANSWER(map->what, answer, expected);
+    CHECK_ANSWER(map->what, rekusoyen_begin(&state, format->number, 0, 0, 0), REKUSOYEN_ACCEPTED);
+    answer = rekusoyen_step(stepped.bytes, GUEST, numbers, map->count, image, image_len, &state, TOP, &step);
+    CHECK_ANSWER(map->what, answer, is_step ? REKUSOYEN_ACCEPTED : expected);
+    CHECK(!is_step || step.answer == expected, "%s: a step answers %u", map->what, (unsigned)step.answer);
+    const struct rekusoyen_plan plan = {format->kernel, 1};
+    check_guest(map, &guest, image + format->from, expected);
+    check_guest(map, &stepped, image + format->from, expected);
     CHECK_KEPT(map->what, &ranges);
-    CHECK_LEFT(map->what, &out, expected == REKUSOYEN_ACCEPTED ? (const void *)values : out.before);
+    CHECK_LEFT(map->what, &kernel, accepted ? (const void *)&plan.kernel : kernel.before);
+    CHECK_LEFT(map->what, &planned, accepted ? (const void *)&plan : planned.before);
 }
 
-static void load_bzimage(const struct map *map, const struct image *image, uint32_t expected)
-{
-    const uint64_t values[REKUSOYEN_BZIMAGE_LOAD_OUT] = {ADDRESS, ADDRESS + SIZE};
-    struct lent guest = lend_filled(GUEST), ranges = lend_numbers(map->numbers, map->count);
-    struct lent out = lend_list(REKUSOYEN_BZIMAGE_LOAD_OUT), header = lend_filled(REKUSOYEN_SETUP_HEADER_SIZE);
-    uint32_t answer = rekusoyen_bzimage_load(
-        guest.bytes, guest.size, numbers_of(&ranges), map->count, image->bytes, image->size, 0, 0, 0,
-        numbers_of(&out), REKUSOYEN_BZIMAGE_LOAD_OUT, header.bytes, header.size);
-    const int accepted = expected == REKUSOYEN_ACCEPTED;
-    CHECK_ANSWER(map->what, answer, expected);
-    check_guest(map, &guest, "ker", expected);
-    CHECK_KEPT(map->what, &ranges);
-    CHECK_LEFT(map->what, &out, accepted ? (const void *)values : out.before);
-    CHECK_LEFT(map->what, &header, accepted ? image->bytes + SETUP_HEADER : header.before);
-}
+#define LETTERS "a line of 63 bytes, which with its zero is as long as the image"
 
 static void load_line(const struct map *map, const struct line *line, uint32_t expected)
 {
@@ -117,53 +115,55 @@ static void load_line(const struct map *map, const struct line *line, uint32_t e
     uint32_t answer = rekusoyen_line_load(
         guest.bytes, guest.size, numbers_of(&ranges), map->count, ADDRESS, line->bytes, sizeof line->bytes);
     CHECK_ANSWER(map->what, answer, expected);
-    check_guest(map, &guest, "ab", expected);
+    check_guest(map, &guest, LETTERS, expected);
     CHECK_KEPT(map->what, &ranges);
 }
 
-/* The three loads of three bytes each, which have room or not. */
+/* Each load, which has room or not. */
 static void check_room(const struct map *map, int has_room)
 {
-    const struct image elf = small_elf(), bzimage = bz_image(1, ADDRESS, "ker", SIZE);
-    const struct line line = line_of((struct text)T("ab"), (struct text)T(""), 9);
-    load_elf(map, &elf, has_room ? REKUSOYEN_ACCEPTED : REKUSOYEN_READ_KERNEL_IMAGE);
-    load_bzimage(map, &bzimage, has_room ? REKUSOYEN_ACCEPTED : REKUSOYEN_READ_BZ_IMAGE_COMPRESSED_KERNEL);
+    const struct line line = line_of((struct text)T(LETTERS), (struct text)T(""), 64);
+    for (EACH_FORMAT(number)) {
+        const struct format format = format_of(number);
+        load_image(map, &format, format.image.size, has_room ? REKUSOYEN_ACCEPTED : format.no_room);
+    }
     load_line(map, &line, has_room ? REKUSOYEN_ACCEPTED : REKUSOYEN_COMMAND_LINE_OVERFLOW);
 }
 
-/* A bad map, with a good image and line, and with ones that would be refused first over a good map. */
+/* A map that is not valid, with a good image and line, and with ones that would be refused first over a valid map. */
 static void check_bad(const struct map *map)
 {
-    const struct image elf = small_elf(), bzimage = bz_image(1, ADDRESS, "ker", SIZE), none = {{0}, 0};
-    const struct line line = line_of((struct text)T("ab"), (struct text)T(""), 9);
+    const struct line line = line_of((struct text)T(LETTERS), (struct text)T(""), 64);
     const struct line init_only = line_of((struct text)T(""), (struct text)T("ab"), 9);
-    load_elf(map, &elf, REKUSOYEN_BAD_MAP);
-    load_elf(map, &none, REKUSOYEN_BAD_MAP);
-    load_bzimage(map, &bzimage, REKUSOYEN_BAD_MAP);
-    load_bzimage(map, &none, REKUSOYEN_BAD_MAP);
+    for (EACH_FORMAT(number)) {
+        const struct format format = format_of(number);
+        load_image(map, &format, format.image.size, REKUSOYEN_BAD_MAP);
+        load_image(map, &format, 0, REKUSOYEN_BAD_MAP);
+    }
     load_line(map, &line, REKUSOYEN_BAD_MAP);
     load_line(map, &init_only, REKUSOYEN_BAD_MAP);
 }
 
-/* A kernel of no bytes is accepted over any good map, and over no bad one. */
+/* A kernel of no bytes is accepted over every valid map, and over no other. */
 static void check_empty_kernel(void)
 {
     const struct image bzimage = bz_image(1, ADDRESS, "", 0);
-    const uint64_t hole[] = {0, 16, 17, 63}, touching[] = {0, 16, 16, 64}, values[] = {ADDRESS, ADDRESS};
+    const uint64_t hole[] = {0, ADDRESS, ADDRESS + 1, 9}, touching[] = {0, ADDRESS, ADDRESS, 9};
     const struct {
         const uint64_t *map;
         size_t count;
         uint32_t answer;
     } loads[] = {{hole, 4, REKUSOYEN_ACCEPTED}, {NULL, 0, REKUSOYEN_ACCEPTED}, {touching, 4, REKUSOYEN_BAD_MAP}};
     for (size_t i = 0; i < sizeof loads / sizeof loads[0]; i++) {
-        struct lent guest = lend_filled(GUEST), out = lend_list(REKUSOYEN_BZIMAGE_LOAD_OUT);
-        uint8_t header[REKUSOYEN_SETUP_HEADER_SIZE];
-        uint32_t answer = rekusoyen_bzimage_load(
-            guest.bytes, guest.size, loads[i].map, loads[i].count, bzimage.bytes, bzimage.size, 0, 0, 0,
-            numbers_of(&out), REKUSOYEN_BZIMAGE_LOAD_OUT, header, sizeof header);
+        const struct rekusoyen_kernel expected = AT(ADDRESS, ADDRESS);
+        struct lent guest = lend_filled(GUEST), kernel = lend_list(REKUSOYEN_KERNEL_NUMBERS);
+        uint32_t answer = rekusoyen_load(
+            guest.bytes, guest.size, loads[i].map, loads[i].count, bzimage.bytes, bzimage.size, REKUSOYEN_BZIMAGE, 0, 0,
+            0, (void *)kernel.bytes);
         CHECK_ANSWER("a kernel of no bytes", answer, loads[i].answer);
         CHECK_KEPT("a kernel of no bytes", &guest);
-        CHECK_LEFT("a kernel of no bytes", &out, answer == REKUSOYEN_ACCEPTED ? (const void *)values : out.before);
+        CHECK_LEFT(
+            "a kernel of no bytes", &kernel, answer == REKUSOYEN_ACCEPTED ? (const void *)&expected : kernel.before);
     }
 }
 
@@ -172,21 +172,22 @@ static void check_segments(void)
 {
     const struct program_header headers[] = {{LOADABLE, 0, 16, 3, 3}, {LOADABLE, 3, 40, 2, 2}};
     const struct image image = elf_image(16, headers, 2, "abcde", 5);
-    const uint64_t apart[] = {16, 3, 40, 2}, cut[] = {16, 3, 40, 1}, values[REKUSOYEN_ELF_LOAD_OUT] = {16, 42};
+    const uint64_t apart[] = {16, 3, 40, 2}, cut[] = {16, 3, 40, 1};
     const uint64_t *const maps[] = {apart, cut};
+    const struct rekusoyen_kernel expected = AT(16, 42);
     for (size_t i = 0; i < 2; i++) {
-        struct lent guest = lend_filled(GUEST), out = lend_list(REKUSOYEN_ELF_LOAD_OUT);
+        struct lent guest = lend_filled(GUEST), kernel = lend_list(REKUSOYEN_KERNEL_NUMBERS);
         uint8_t left[GUEST];
         memcpy(left, guest.before, GUEST);
-        uint32_t answer = rekusoyen_elf_load(
-            guest.bytes, guest.size, maps[i], 4, image.bytes, image.size, 0, 0, 0, numbers_of(&out), REKUSOYEN_ELF_LOAD_OUT);
+        uint32_t answer = rekusoyen_load(
+            guest.bytes, guest.size, maps[i], 4, image.bytes, image.size, REKUSOYEN_ELF, 0, 0, 0, (void *)kernel.bytes);
         if (i == 0) {
             memcpy(left + 16, "abc", 3);
             memcpy(left + 40, "de", 2);
         }
         CHECK_ANSWER("two segments", answer, i == 0 ? REKUSOYEN_ACCEPTED : REKUSOYEN_READ_KERNEL_IMAGE);
         CHECK_LEFT("two segments", &guest, left);
-        CHECK_LEFT("two segments", &out, i == 0 ? (const void *)values : out.before);
+        CHECK_LEFT("two segments", &kernel, i == 0 ? (const void *)&expected : kernel.before);
     }
 }
 

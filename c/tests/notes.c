@@ -10,7 +10,7 @@ struct walk {
     size_t image_len;
     size_t out_len;
     uint32_t answer;
-    uint64_t values[REKUSOYEN_ELF_NOTE_OUT];
+    struct rekusoyen_note note;
 };
 
 /* Where each note begins, and the end of the last. */
@@ -31,18 +31,20 @@ static struct image notes_image(void)
     return image;
 }
 
-#define OUT REKUSOYEN_ELF_NOTE_OUT
-/* The PVH note found as the last of so many headers. */
-#define FOUND(headers) {REKUSOYEN_PVH_PRESENT, 0x100000, headers, PVH + 16, 4}
+#define OUT REKUSOYEN_NOTE_NUMBERS
+/* The PVH note found as the last of so many headers; and so many headers without it. */
+#define FOUND(count) \
+    {.pvh = REKUSOYEN_PVH_PRESENT, .pvh_entry = 0x100000, .headers = (count), .pvh_offset = PVH + 16, .pvh_size = 4}
+#define NOT_FOUND(count) {.pvh = REKUSOYEN_PVH_NOT_PRESENT, .headers = (count)}
 
 static const struct walk walks[] = {
     {"the PVH note first", PVH, 20, END, OUT, REKUSOYEN_ACCEPTED, FOUND(1)},
     {"a size that ends within the PVH note", PVH, 1, END, OUT, REKUSOYEN_ACCEPTED, FOUND(1)},
     {"an image that ends with the PVH note", PVH, 20, SHORT, OUT, REKUSOYEN_ACCEPTED, FOUND(1)},
     {"three notes before the PVH note", EMPTY, 72, END, OUT, REKUSOYEN_ACCEPTED, FOUND(4)},
-    {"a size that ends before the PVH note", EMPTY, 52, END, OUT, REKUSOYEN_ACCEPTED, {REKUSOYEN_PVH_NOT_PRESENT, 0, 3}},
-    {"a size of 0, at any place", UINT64_MAX, 0, END, OUT, REKUSOYEN_ACCEPTED, {REKUSOYEN_PVH_NOT_PRESENT, 0, 0}},
-    {"no image", 0, 0, 0, OUT, REKUSOYEN_ACCEPTED, {REKUSOYEN_PVH_NOT_PRESENT, 0, 0}},
+    {"a size that ends before the PVH note", EMPTY, 52, END, OUT, REKUSOYEN_ACCEPTED, NOT_FOUND(3)},
+    {"a size of 0, at any place", UINT64_MAX, 0, END, OUT, REKUSOYEN_ACCEPTED, NOT_FOUND(0)},
+    {"no image", 0, 0, 0, OUT, REKUSOYEN_ACCEPTED, NOT_FOUND(0)},
     {"a note header past the image", EMPTY, 20, 11, OUT, REKUSOYEN_READ_NOTE_HEADER, {0}},
     {"a place past the image", UINT64_MAX, 1, END, OUT, REKUSOYEN_READ_NOTE_HEADER, {0}},
     {"the next note header past the image", OTHER_TYPE, 40, OTHER_NAME + 11, OUT, REKUSOYEN_READ_NOTE_HEADER, {0}},
@@ -64,10 +66,13 @@ void test_notes(void)
         const struct walk *walk = &walks[i];
         struct lent image = lend_bytes(whole.bytes, walk->image_len);
         struct lent out = lend_list(walk->out_len);
-        uint32_t answer = rekusoyen_elf_note(
-            image.bytes, image.size, walk->p_offset, walk->p_filesz, numbers_of(&out), walk->out_len);
+        uint32_t answer =
+            walk->out_len == OUT
+                ? rekusoyen_elf_note(image.bytes, image.size, walk->p_offset, walk->p_filesz, (void *)out.bytes)
+                : rekusoyen_raw_elf_note(
+                      image.bytes, image.size, walk->p_offset, walk->p_filesz, numbers_of(&out), walk->out_len);
         CHECK_ANSWER(walk->what, answer, walk->answer);
         CHECK_KEPT(walk->what, &image);
-        CHECK_LEFT(walk->what, &out, walk->answer == REKUSOYEN_ACCEPTED ? (const void *)walk->values : out.before);
+        CHECK_LEFT(walk->what, &out, walk->answer == REKUSOYEN_ACCEPTED ? (const void *)&walk->note : out.before);
     }
 }

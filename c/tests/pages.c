@@ -68,14 +68,14 @@ static struct image page_of(const uint8_t *header, const uint64_t *rows, size_t 
     return page;
 }
 
-/* Reads a page, and checks what is told. */
+/* Reads a page, and checks what is returned. */
 static void check_read(const char *what, const struct image *content, uint32_t expected)
 {
-    struct lent page = lend_bytes(content->bytes, content->size), out = lend_list(REKUSOYEN_PAGE_READ_OUT);
+    struct lent page = lend_bytes(content->bytes, content->size), out = lend_list(REKUSOYEN_PAGE_NUMBERS);
     struct lent rows = lend_list(REKUSOYEN_PAGE_READ_ROWS), header = lend_filled(REKUSOYEN_SETUP_HEADER_SIZE);
     uint32_t answer = rekusoyen_page_read(
-        page.bytes, page.size, numbers_of(&out), REKUSOYEN_PAGE_READ_OUT, numbers_of(&rows), REKUSOYEN_PAGE_READ_ROWS,
-        header.bytes, header.size);
+        page.bytes, page.size, (void *)out.bytes, numbers_of(&rows), REKUSOYEN_PAGE_READ_ROWS, header.bytes,
+        header.size);
     CHECK_ANSWER(what, answer, expected);
     CHECK_KEPT(what, &page);
     if (expected != REKUSOYEN_ACCEPTED) {
@@ -84,20 +84,21 @@ static void check_read(const char *what, const struct image *content, uint32_t e
         CHECK_KEPT(what, &header);
         return;
     }
-    uint64_t values[REKUSOYEN_PAGE_READ_OUT] = {content->bytes[COUNT], 0, 0, 0}, numbers[REKUSOYEN_PAGE_READ_ROWS];
-    const size_t places[] = {COMMAND_LINE, RAMDISK, RAMDISK_SIZE}, widths[] = {8, 8, 4};
-    for (size_t i = 0; i < 3; i++)
-        for (size_t k = 4; k-- > 0;)
-            values[i + 1] = values[i + 1] << 8 | content->bytes[places[i] + k];
+    const struct rekusoyen_page values = {
+        .rows = content->bytes[COUNT],
+        .command_line = get_number(content, COMMAND_LINE, 4),
+        .ramdisk = get_number(content, RAMDISK, 4),
+        .ramdisk_size = get_number(content, RAMDISK_SIZE, 4),
+    };
+    uint64_t numbers[REKUSOYEN_PAGE_READ_ROWS];
+    const size_t widths[] = {8, 8, 4};
     memcpy(numbers, rows.before, sizeof numbers);
     size_t place = ROWS;
-    for (size_t i = 0; i < 3 * values[0]; i++) {
-        numbers[i] = 0;
-        for (size_t k = widths[i % 3]; k-- > 0;)
-            numbers[i] = numbers[i] << 8 | content->bytes[place + k];
+    for (size_t i = 0; i < 3 * values.rows; i++) {
+        numbers[i] = get_number(content, place, widths[i % 3]);
         place += widths[i % 3];
     }
-    CHECK_LEFT(what, &out, values);
+    CHECK_LEFT(what, &out, &values);
     CHECK_LEFT(what, &rows, numbers);
     CHECK_LEFT(what, &header, content->bytes + SETUP_HEADER);
 }
@@ -164,18 +165,20 @@ static void check_others(void)
     check_read("no page", &page, REKUSOYEN_BAD_PAGE_SIZE);
 }
 
-/* What is lent for a page that is read has its sizes, and that is asked first. */
+/* The buffers for a page that is read have their sizes, and that is checked first. */
 static void check_sizes(void)
 {
-    struct lent out = lend_list(REKUSOYEN_PAGE_READ_OUT + 1), rows = lend_list(REKUSOYEN_PAGE_READ_ROWS + 1);
+    struct lent out = lend_list(REKUSOYEN_PAGE_NUMBERS + 1), rows = lend_list(REKUSOYEN_PAGE_READ_ROWS + 1);
     struct lent header = lend_filled(REKUSOYEN_SETUP_HEADER_SIZE + 1);
-    const size_t sizes[] = {REKUSOYEN_PAGE_READ_OUT, REKUSOYEN_PAGE_READ_ROWS, REKUSOYEN_SETUP_HEADER_SIZE};
+    const size_t sizes[] = {REKUSOYEN_PAGE_NUMBERS, REKUSOYEN_PAGE_READ_ROWS, REKUSOYEN_SETUP_HEADER_SIZE};
     for (size_t i = 0; i < 3; i++)
         for (size_t step = 0; step < 2; step++) {
             size_t lent[] = {sizes[0], sizes[1], sizes[2]};
             lent[i] += step == 0 ? 1 : (size_t)-1;
             CHECK_ANSWER(
-                "a lent size", rekusoyen_page_read(NULL, 0, numbers_of(&out), lent[0], numbers_of(&rows), lent[1], header.bytes, lent[2]),
+                "a size",
+                rekusoyen_raw_page_read(
+                    NULL, 0, numbers_of(&out), lent[0], numbers_of(&rows), lent[1], header.bytes, lent[2]),
                 REKUSOYEN_NO_ROOM);
         }
     CHECK_KEPT("refused", &out);

@@ -1,9 +1,8 @@
 /*
- * How much stack a call uses. It runs on a thread of the smallest stack that the system allows (16 KiB, where it allows that), which is filled
- * before; what is no longer as filled was used.
+ * How much stack a call uses. It runs on a thread of the smallest stack that the system allows (16 KiB, where it allows
+ * that), which is filled before; what is no longer as filled was used.
  */
-#include "check.h"
-#include "images.h"
+#include "loads.h"
 #include "tests.h"
 
 #include <pthread.h>
@@ -19,12 +18,17 @@
 #define OWN_FRAME 64
 
 static uint8_t line[REKUSOYEN_LINE_SIZE], other_line[REKUSOYEN_LINE_SIZE];
-static uint8_t guest[64], setup_header[REKUSOYEN_SETUP_HEADER_SIZE];
-static uint64_t out[REKUSOYEN_ELF_LOAD_OUT], plan_out[REKUSOYEN_ELF_PLAN_OUT], rows[REKUSOYEN_PAGE_READ_ROWS];
-static uint64_t state[REKUSOYEN_ELF_STATE], step_out[REKUSOYEN_ELF_STEP_OUT];
-static uint8_t page[REKUSOYEN_PAGE_SIZE];
-static struct image elf, bzimage, arm64;
-static uint64_t arm64_state[REKUSOYEN_ARM64_STATE];
+static uint8_t guest[GUEST], setup_header[REKUSOYEN_SETUP_HEADER_SIZE], page[REKUSOYEN_PAGE_SIZE];
+static uint64_t number, rows[REKUSOYEN_PAGE_READ_ROWS];
+static struct format formats[REKUSOYEN_ARM64 + 1];
+static struct rekusoyen_kernel kernel;
+static struct rekusoyen_plan plan;
+static struct rekusoyen_part part;
+static struct rekusoyen_state state;
+static struct rekusoyen_step stepped;
+static struct rekusoyen_note note;
+static struct rekusoyen_page values;
+static struct rekusoyen_start start;
 static const uint8_t text[] = "text";
 static const size_t ends[] = {2, 4};
 static uint8_t quotes[REKUSOYEN_LINE_LIMIT];
@@ -32,89 +36,63 @@ static uint64_t word_starts[1], word_ends[1], word_splits[1];
 
 /* As many ranges as a map has; all that is loaded goes to the second. */
 static const uint64_t ranges[] = {
-    0,  1, 16, 8, 30, 1, 32, 1, 34, 1, 36, 1, 38, 1, 40, 1,
-    42, 1, 44, 1, 46, 1, 48, 1, 50, 1, 52, 1, 54, 1, 56, 8,
+    0,   1, ADDRESS, SIZE, 400, 1, 402, 1, 404, 1, 406, 1, 408, 1, 410, 1,
+    412, 1, 414,     1,    416, 1, 418, 1, 420, 1, 422, 1, 424, 1, 426, 8,
 };
 
 #define RANGES (sizeof ranges / sizeof ranges[0])
 
-/* The same for a file of 64 bytes, which goes to the last. */
-static uint8_t arm64_guest[128];
-static const uint64_t arm64_ranges[RANGES] = {
-    0,  1, 2,  1, 4,  1, 6,  1, 8,  1, 10, 1, 12, 1, 14, 1,
-    16, 1, 18, 1, 20, 1, 22, 1, 24, 1, 26, 1, 28, 1, 64, 64,
-};
+/* The calls of a load, in the format that is measured. */
+static struct format *format;
 
-static uint32_t elf_load(void)
+static uint32_t load(void)
 {
-    return rekusoyen_elf_load(
-        guest, sizeof guest, ranges, RANGES, elf.bytes, elf.size, 0, 0, 0, out, REKUSOYEN_ELF_LOAD_OUT);
+    return rekusoyen_load(
+        guest, sizeof guest, ranges, RANGES, format->image.bytes, format->image.size, format->number, 0, 0, 0, &kernel);
 }
 
-/* The first step, which looks at all headers and copies; the call of elf_begin before it uses less. */
-static uint32_t elf_step(void)
+/* The first step, which looks at all headers and copies; the call of rekusoyen_begin before it uses less. */
+static uint32_t step(void)
 {
-    const uint32_t answer = rekusoyen_elf_begin(state, REKUSOYEN_ELF_STATE, 0, 0, 0);
+    const uint32_t answer = rekusoyen_begin(&state, format->number, 0, 0, 0);
     if (answer != REKUSOYEN_ACCEPTED)
         return answer;
-    return rekusoyen_elf_step(
-        guest, sizeof guest, ranges, RANGES, elf.bytes, elf.size, state, REKUSOYEN_ELF_STATE, 8, step_out, REKUSOYEN_ELF_STEP_OUT);
+    return rekusoyen_step(
+        guest, sizeof guest, ranges, RANGES, format->image.bytes, format->image.size, &state, 8, &stepped);
+}
+
+static uint32_t make_plan(void)
+{
+    return rekusoyen_plan(
+        sizeof guest, ranges, RANGES, format->image.bytes, format->image.size, format->number, 0, 0, 0, &plan);
+}
+
+static uint32_t make_part(void)
+{
+    return rekusoyen_part(
+        sizeof guest, ranges, RANGES, format->image.bytes, format->image.size, format->number, 0, 0, 0, &part);
+}
+
+static uint32_t kind(void)
+{
+    return rekusoyen_kind(format->image.bytes, format->image.size) == format->number ? 0 : REKUSOYEN_BAD_LIST;
+}
+
+static uint32_t make_header(void)
+{
+    return rekusoyen_setup_header(
+        format->image.bytes, format->image.size, ADDRESS, setup_header, sizeof setup_header);
 }
 
 static uint32_t elf_note(void)
 {
-    return rekusoyen_elf_note(elf.bytes, elf.size, ELF_HEADER_SIZE, PROGRAM_HEADER_SIZE, out, REKUSOYEN_ELF_NOTE_OUT);
-}
-
-static uint32_t bzimage_load(void)
-{
-    return rekusoyen_bzimage_load(
-        guest, sizeof guest, ranges, RANGES, bzimage.bytes, bzimage.size, 0, 0, 0,
-        out, REKUSOYEN_BZIMAGE_LOAD_OUT, setup_header, sizeof setup_header);
-}
-
-static uint32_t arm64_load(void)
-{
-    return rekusoyen_arm64_load(
-        arm64_guest, sizeof arm64_guest, arm64_ranges, RANGES, arm64.bytes, arm64.size, 0, out, REKUSOYEN_ARM64_LOAD_OUT);
-}
-
-static uint32_t arm64_step(void)
-{
-    const uint32_t answer = rekusoyen_arm64_begin(arm64_state, REKUSOYEN_ARM64_STATE, 0);
-    if (answer != REKUSOYEN_ACCEPTED)
-        return answer;
-    return rekusoyen_arm64_step(
-        arm64_guest, sizeof arm64_guest, arm64_ranges, RANGES, arm64.bytes, arm64.size, arm64_state, REKUSOYEN_ARM64_STATE, 8, step_out,
-        REKUSOYEN_ARM64_STEP_OUT);
-}
-
-static uint32_t elf_plan(void)
-{
-    return rekusoyen_elf_plan(sizeof guest, ranges, RANGES, elf.bytes, elf.size, 0, 0, 0, plan_out, REKUSOYEN_ELF_PLAN_OUT);
-}
-
-static uint32_t elf_part(void)
-{
-    return rekusoyen_elf_part(sizeof guest, ranges, RANGES, elf.bytes, elf.size, 0, 0, 0, plan_out, REKUSOYEN_ELF_PART_OUT);
-}
-
-static uint32_t bzimage_plan(void)
-{
-    return rekusoyen_bzimage_plan(
-        sizeof guest, ranges, RANGES, bzimage.bytes, bzimage.size, 0, 0, 0, plan_out, REKUSOYEN_BZIMAGE_PLAN_OUT,
-        setup_header, sizeof setup_header);
-}
-
-static uint32_t arm64_plan(void)
-{
-    return rekusoyen_arm64_plan(
-        sizeof arm64_guest, arm64_ranges, RANGES, arm64.bytes, arm64.size, 0, plan_out, REKUSOYEN_ARM64_PLAN_OUT);
+    return rekusoyen_elf_note(format->image.bytes, format->image.size, ELF_HEADER_SIZE, PROGRAM_HEADER_SIZE, &note);
 }
 
 static uint32_t page_build(void)
 {
-    return rekusoyen_page_build(page, sizeof page, setup_header, sizeof setup_header, 1, 2, 3, rows, REKUSOYEN_PAGE_READ_ROWS);
+    return rekusoyen_page_build(
+        page, sizeof page, setup_header, sizeof setup_header, 1, 2, 3, rows, REKUSOYEN_PAGE_READ_ROWS);
 }
 
 static uint32_t start_write(void)
@@ -126,13 +104,19 @@ static uint32_t start_write(void)
 static uint32_t start_check(void)
 {
     static const uint64_t map[] = {0, sizeof page};
-    return rekusoyen_start_check(page, sizeof page, map, 2, 0, out, REKUSOYEN_START_CHECK_OUT);
+    return rekusoyen_start_check(page, sizeof page, map, 2, 0, &number);
+}
+
+static uint32_t start_block(void)
+{
+    rekusoyen_start_block(page, sizeof page, 0, &start);
+    return start.magic == REKUSOYEN_START_MAGIC ? 0 : REKUSOYEN_BAD_LIST;
 }
 
 static uint32_t page_read(void)
 {
     return rekusoyen_page_read(
-        page, sizeof page, out, REKUSOYEN_PAGE_READ_OUT, rows, REKUSOYEN_PAGE_READ_ROWS, setup_header, sizeof setup_header);
+        page, sizeof page, &values, rows, REKUSOYEN_PAGE_READ_ROWS, setup_header, sizeof setup_header);
 }
 
 static uint32_t line_new(void)
@@ -172,63 +156,66 @@ static uint32_t line_add_virtio_mmio_device(void)
 
 static uint32_t line_as_cstring(void)
 {
-    return rekusoyen_line_as_cstring(other_line, sizeof other_line, guest, sizeof guest, out, 1);
+    return rekusoyen_line_as_cstring(other_line, sizeof other_line, guest, sizeof guest, &number);
 }
 
 static uint32_t line_equal(void)
 {
-    return rekusoyen_line_equal(line, sizeof line, other_line, sizeof other_line, out, 1);
+    return rekusoyen_line_equal(line, sizeof line, other_line, sizeof other_line, &number);
 }
 
 static uint32_t line_load(void)
 {
-    return rekusoyen_line_load(guest, sizeof guest, ranges, RANGES, 16, other_line, sizeof other_line);
+    return rekusoyen_line_load(guest, sizeof guest, ranges, RANGES, ADDRESS, other_line, sizeof other_line);
 }
 
-/* A line of one word that is quotes alone: the reader of plain text and that of quoted text hand over at each. */
 static uint32_t line_plan(void)
 {
-    return rekusoyen_line_plan(sizeof guest, ranges, RANGES, 16, other_line, sizeof other_line);
+    return rekusoyen_line_plan(sizeof guest, ranges, RANGES, ADDRESS, other_line, sizeof other_line);
 }
 
+/* A line of one word that is only quotes: the reader of plain text and that of quoted text alternate at each. */
 static uint32_t line_words(void)
 {
-    return rekusoyen_line_words(
-        quotes, sizeof quotes, word_starts, 1, word_ends, 1, word_splits, 1, out, REKUSOYEN_LINE_WORDS_OUT);
+    return rekusoyen_line_words(quotes, sizeof quotes, word_starts, 1, word_ends, 1, word_splits, 1, &number);
 }
 
-/* Every function, in an order in which each call is accepted. */
+/* Every function, in an order in which each call is accepted; those of a load in every format. */
+#define OF_FORMAT(format) \
+    {"rekusoyen_load", load, REKUSOYEN_LOAD_STACK_SIZE, (format)}, \
+    {"rekusoyen_plan", make_plan, REKUSOYEN_LOAD_STACK_SIZE, (format)}, \
+    {"rekusoyen_part", make_part, REKUSOYEN_LOAD_STACK_SIZE, (format)}, \
+    {"rekusoyen_step", step, REKUSOYEN_STEP_STACK_SIZE, (format)}, \
+    {"rekusoyen_kind", kind, REKUSOYEN_LOAD_STACK_SIZE, (format)}, \
+    {"rekusoyen_setup_header", make_header, REKUSOYEN_LOAD_STACK_SIZE, (format)}
+
 static const struct {
     const char *name;
     uint32_t (*make)(void);
     size_t limit;
+    uint32_t format;
 } calls[] = {
-    {"rekusoyen_elf_load", elf_load, REKUSOYEN_LOAD_STACK_SIZE},
-    {"rekusoyen_elf_step", elf_step, REKUSOYEN_STEP_STACK_SIZE},
-    {"rekusoyen_elf_note", elf_note, REKUSOYEN_LOAD_STACK_SIZE},
-    {"rekusoyen_bzimage_load", bzimage_load, REKUSOYEN_LOAD_STACK_SIZE},
-    {"rekusoyen_arm64_load", arm64_load, REKUSOYEN_LOAD_STACK_SIZE},
-    {"rekusoyen_arm64_step", arm64_step, REKUSOYEN_STEP_STACK_SIZE},
-    {"rekusoyen_elf_plan", elf_plan, REKUSOYEN_LOAD_STACK_SIZE},
-    {"rekusoyen_elf_part", elf_part, REKUSOYEN_LOAD_STACK_SIZE},
-    {"rekusoyen_bzimage_plan", bzimage_plan, REKUSOYEN_LOAD_STACK_SIZE},
-    {"rekusoyen_arm64_plan", arm64_plan, REKUSOYEN_LOAD_STACK_SIZE},
-    {"rekusoyen_page_build", page_build, REKUSOYEN_LOAD_STACK_SIZE},
-    {"rekusoyen_page_read", page_read, REKUSOYEN_LOAD_STACK_SIZE},
-    {"rekusoyen_start_write", start_write, REKUSOYEN_LOAD_STACK_SIZE},
-    {"rekusoyen_start_check", start_check, REKUSOYEN_LOAD_STACK_SIZE},
-    {"rekusoyen_line_new", line_new, REKUSOYEN_LINE_STACK_SIZE},
-    {"rekusoyen_line_try_from", line_try_from, REKUSOYEN_LINE_STACK_SIZE},
-    {"rekusoyen_line_insert", line_insert, REKUSOYEN_LINE_STACK_SIZE},
-    {"rekusoyen_line_insert_multiple", line_insert_multiple, REKUSOYEN_LINE_STACK_SIZE},
-    {"rekusoyen_line_insert_str", line_insert_str, REKUSOYEN_LINE_STACK_SIZE},
-    {"rekusoyen_line_insert_init_args", line_insert_init_args, REKUSOYEN_LINE_STACK_SIZE},
-    {"rekusoyen_line_add_virtio_mmio_device", line_add_virtio_mmio_device, REKUSOYEN_LINE_STACK_SIZE},
-    {"rekusoyen_line_as_cstring", line_as_cstring, REKUSOYEN_LINE_STACK_SIZE},
-    {"rekusoyen_line_equal", line_equal, REKUSOYEN_LINE_STACK_SIZE},
-    {"rekusoyen_line_load", line_load, REKUSOYEN_LINE_STACK_SIZE},
-    {"rekusoyen_line_plan", line_plan, REKUSOYEN_LINE_STACK_SIZE},
-    {"rekusoyen_line_words", line_words, REKUSOYEN_LINE_STACK_SIZE},
+    OF_FORMAT(REKUSOYEN_ELF),
+    OF_FORMAT(REKUSOYEN_BZIMAGE),
+    OF_FORMAT(REKUSOYEN_ARM64),
+    {"rekusoyen_elf_note", elf_note, REKUSOYEN_LOAD_STACK_SIZE, REKUSOYEN_ELF},
+    {"rekusoyen_page_build", page_build, REKUSOYEN_LOAD_STACK_SIZE, 0},
+    {"rekusoyen_page_read", page_read, REKUSOYEN_LOAD_STACK_SIZE, 0},
+    {"rekusoyen_start_write", start_write, REKUSOYEN_LOAD_STACK_SIZE, 0},
+    {"rekusoyen_start_check", start_check, REKUSOYEN_LOAD_STACK_SIZE, 0},
+    {"rekusoyen_start_block", start_block, REKUSOYEN_LOAD_STACK_SIZE, 0},
+    {"rekusoyen_line_new", line_new, REKUSOYEN_LINE_STACK_SIZE, 0},
+    {"rekusoyen_line_try_from", line_try_from, REKUSOYEN_LINE_STACK_SIZE, 0},
+    {"rekusoyen_line_insert", line_insert, REKUSOYEN_LINE_STACK_SIZE, 0},
+    {"rekusoyen_line_insert_multiple", line_insert_multiple, REKUSOYEN_LINE_STACK_SIZE, 0},
+    {"rekusoyen_line_insert_str", line_insert_str, REKUSOYEN_LINE_STACK_SIZE, 0},
+    {"rekusoyen_line_insert_init_args", line_insert_init_args, REKUSOYEN_LINE_STACK_SIZE, 0},
+    {"rekusoyen_line_add_virtio_mmio_device", line_add_virtio_mmio_device, REKUSOYEN_LINE_STACK_SIZE, 0},
+    {"rekusoyen_line_as_cstring", line_as_cstring, REKUSOYEN_LINE_STACK_SIZE, 0},
+    {"rekusoyen_line_equal", line_equal, REKUSOYEN_LINE_STACK_SIZE, 0},
+    {"rekusoyen_line_load", line_load, REKUSOYEN_LINE_STACK_SIZE, 0},
+    {"rekusoyen_line_plan", line_plan, REKUSOYEN_LINE_STACK_SIZE, 0},
+    {"rekusoyen_line_words", line_words, REKUSOYEN_LINE_STACK_SIZE, 0},
 };
 
 #define CALLS (sizeof calls / sizeof calls[0])
@@ -236,7 +223,7 @@ static const struct {
 static uint32_t answers[CALLS];
 static size_t used[CALLS];
 
-/* Fills the stack from its bottom up to this frame, which stands where that of a call will. */
+/* Fills the stack from its bottom up to this frame, which is at the place of that of a call. */
 static __attribute__((noinline)) void fill(volatile uint8_t *bottom)
 {
     volatile uint8_t *end = (uint8_t *)__builtin_frame_address(0) - OWN_FRAME;
@@ -249,6 +236,7 @@ static void *measure(void *stack)
 {
     volatile uint8_t *bottom = stack, *top = __builtin_frame_address(0);
     for (size_t i = 0; i < CALLS; i++) {
+        format = &formats[calls[i].format];
         fill(bottom);
         answers[i] = calls[i].make();
         volatile uint8_t *kept = bottom;
@@ -264,10 +252,10 @@ void test_stack(void)
     void *stack = NULL;
     pthread_attr_t attributes;
     pthread_t thread;
-    elf = small_elf();
+    formats[0].name = "";
+    for (EACH_FORMAT(which))
+        formats[which] = format_of(which);
     memset(quotes, '"', sizeof quotes);
-    bzimage = bz_image(1, 16, "k", 1);
-    arm64 = arm64_image(64, 64);
     for (size_t i = 0; i < REKUSOYEN_PAGE_READ_ROWS; i++)
         rows[i] = i % 3 == 0 ? i : 1;
     const long least = sysconf(_SC_THREAD_STACK_MIN);
@@ -281,7 +269,7 @@ void test_stack(void)
         CHECK_ANSWER(calls[i].name, answers[i], REKUSOYEN_ACCEPTED);
         CHECK(used[i] <= calls[i].limit, "%s used %zu bytes of stack", calls[i].name, used[i]);
         if (getenv("REKUSOYEN_TELL_STACK"))
-            printf("c: %-38s %zu bytes of stack\n", calls[i].name, used[i]);
+            printf("c: %-38s %-8s %zu bytes of stack\n", calls[i].name, formats[calls[i].format].name, used[i]);
         most = used[i] > most ? used[i] : most;
     }
     printf("c: on a thread of %zu bytes, a call used up to %zu bytes of stack\n", size, most);

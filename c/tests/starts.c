@@ -51,16 +51,16 @@ static void put(uint8_t *bytes, uint64_t at, const uint64_t *numbers, const size
 static const size_t block_widths[] = {4, 4, 4, 4, 8, 8, 8, 8, 4, 4}, module_widths[] = {8, 8, 8, 8}, range_widths[] = {8, 8, 4, 4};
 
 /* What is written reads back equal and is accepted. */
-static void check_back(const char *what, const struct lent *guest, const struct write *w, const uint64_t *block)
+static void check_back(
+    const char *what, const struct lent *guest, const struct write *w, const struct rekusoyen_start *block)
 {
-    struct lent out = lend_list(REKUSOYEN_START_CHECK_OUT), numbers = lend_list(REKUSOYEN_START_BLOCK_NUMBERS);
+    struct lent out = lend_list(1), numbers = lend_list(REKUSOYEN_START_BLOCK_NUMBERS);
     struct lent modules = lend_list(w->modules_len), ranges = lend_list(w->ranges_len);
     const uint64_t yes = 1;
-    uint32_t answer = rekusoyen_start_check(
-        guest->bytes, guest->size, whole, 2, w->block, numbers_of(&out), REKUSOYEN_START_CHECK_OUT);
+    uint32_t answer = rekusoyen_start_check(guest->bytes, guest->size, whole, 2, w->block, numbers_of(&out));
     CHECK_ANSWER(what, answer, REKUSOYEN_ACCEPTED);
     CHECK_LEFT(what, &out, &yes);
-    rekusoyen_start_block(guest->bytes, guest->size, w->block, numbers_of(&numbers), REKUSOYEN_START_BLOCK_NUMBERS);
+    rekusoyen_start_block(guest->bytes, guest->size, w->block, (void *)numbers.bytes);
     CHECK_LEFT(what, &numbers, block);
     rekusoyen_start_modules(guest->bytes, guest->size, w->modules_at, numbers_of(&modules), w->modules_len);
     CHECK_LEFT(what, &modules, w->modules);
@@ -83,14 +83,18 @@ static void check_write(const struct write *w)
         CHECK_KEPT(w->what, &guest);
         return;
     }
-    const uint64_t block[] = {
-        REKUSOYEN_START_MAGIC, 1, START_FLAGS, w->modules_len / 4, w->modules_at, LINE, RSDP, w->ranges_at, w->ranges_len / 4, 0};
+    const struct rekusoyen_start block = {
+        .magic = REKUSOYEN_START_MAGIC, .version = 1, .flags = START_FLAGS, .modules = w->modules_len / 4,
+        .modules_at = w->modules_at, .command_line = LINE, .rsdp = RSDP, .ranges_at = w->ranges_at,
+        .ranges = w->ranges_len / 4};
     uint8_t expected[GUEST];
     memcpy(expected, guest.before, GUEST);
-    put(expected, w->block, block, block_widths, 10);
+    uint64_t numbers[REKUSOYEN_START_BLOCK_NUMBERS];
+    memcpy(numbers, &block, sizeof numbers);
+    put(expected, w->block, numbers, block_widths, REKUSOYEN_START_BLOCK_NUMBERS);
     put(expected, w->modules_at, w->modules, module_widths, w->modules_len);
     put(expected, w->ranges_at, w->ranges, range_widths, w->ranges_len);
-    check_back(w->what, &guest, w, block);
+    check_back(w->what, &guest, w, &block);
     CHECK_LEFT(w->what, &guest, expected);
 }
 
@@ -106,12 +110,12 @@ static void check_bytes(void)
         const int fixed = place < 8 || (place >= 52 && place < 56) || (place >= 80 && place < 88) || (place >= 108 && place < 112);
         /* more rows than there is memory, or an address past it */
         const int far = (place >= 12 && place < 24) || (place >= 40 && place < 52);
-        struct lent guest = lend_bytes(good, GUEST), out = lend_list(REKUSOYEN_START_CHECK_OUT);
+        struct lent guest = lend_bytes(good, GUEST), out = lend_list(1);
         guest.bytes[place] ^= 0x80;
         const uint64_t accepted = !fixed && !far;
-        uint32_t answer = rekusoyen_start_check(
-            guest.bytes, guest.size, whole, 2, 0, numbers_of(&out), REKUSOYEN_START_CHECK_OUT);
+        uint32_t answer = rekusoyen_start_check(guest.bytes, guest.size, whole, 2, 0, numbers_of(&out));
         CHECK_ANSWER("one byte", answer, REKUSOYEN_ACCEPTED);
+        CHECK_LEFT("one byte", &guest, guest.bytes);
         CHECK_LEFT("one byte", &out, &accepted);
     }
 }
@@ -120,12 +124,14 @@ static void check_bytes(void)
 static void check_lent(void)
 {
     const uint64_t bad[] = {0, GUEST + 1};
-    struct lent guest = lend_filled(GUEST), out = lend_list(REKUSOYEN_START_CHECK_OUT);
+    struct lent guest = lend_filled(GUEST), out = lend_list(2);
+    for (size_t length = 0; length <= 2; length++)
+        if (length != 1)
+            CHECK_ANSWER(
+                "no room", rekusoyen_raw_start_check(guest.bytes, guest.size, bad, 2, 0, numbers_of(&out), length),
+                REKUSOYEN_NO_ROOM);
     CHECK_ANSWER(
-        "no room", rekusoyen_start_check(guest.bytes, guest.size, bad, 2, 0, numbers_of(&out), 0), REKUSOYEN_NO_ROOM);
-    CHECK_ANSWER(
-        "bad map", rekusoyen_start_check(guest.bytes, guest.size, bad, 2, 0, numbers_of(&out), REKUSOYEN_START_CHECK_OUT),
-        REKUSOYEN_BAD_MAP);
+        "bad map", rekusoyen_start_check(guest.bytes, guest.size, bad, 2, 0, numbers_of(&out)), REKUSOYEN_BAD_MAP);
     CHECK_ANSWER(
         "bad map", rekusoyen_start_write(guest.bytes, guest.size, bad, 2, TOP, 0, 0, 0, 0, 0, one, 3, one, 4), REKUSOYEN_BAD_MAP);
     CHECK_ANSWER(

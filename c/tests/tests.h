@@ -3,6 +3,7 @@
 #define TESTS_H
 
 void test_answers(void);
+void test_formats(void);
 void test_elf(void);
 void test_notes(void);
 void test_bzimage(void);

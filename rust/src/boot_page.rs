@@ -3,7 +3,8 @@
 //! linux-loader leaves it to the monitor to fill a [`boot_params`]; here the library does that,
 //! and tests the memory map.
 
-use crate::entry::{self, PAGE_READ_OUT, PAGE_READ_ROWS, PAGE_SIZE, SETUP_HEADER_SIZE};
+use crate::entry::{PAGE_NUMBERS, PAGE_READ_ROWS, PAGE_SIZE, SETUP_HEADER_SIZE};
+use crate::ffi::call;
 use crate::loader::bootparam::{boot_e820_entry, boot_params, setup_header};
 use crate::refusal::{answered, Refusal};
 
@@ -70,21 +71,14 @@ pub fn build(
         .iter()
         .flat_map(|row| [row.addr, row.size, row.r#type.into()])
         .collect();
-    // SAFETY: all are slices of Rust's, the page borrowed by this call alone. The function keeps none of the pointers.
-    let number = unsafe {
-        entry::rekusoyen_page_build(
-            page.as_mut_ptr(),
-            page.len(),
-            header.as_ptr(),
-            header.len(),
-            addresses.command_line,
-            addresses.ramdisk,
-            addresses.ramdisk_size,
-            numbers.as_ptr(),
-            numbers.len(),
-        )
-    };
-    answered(number)
+    let Addresses {
+        command_line,
+        ramdisk,
+        ramdisk_size,
+    } = addresses;
+    answered(call!(rekusoyen_page_build(
+        mut page, in &header, command_line, ramdisk, ramdisk_size, in &numbers
+    )))
 }
 
 /// Reads a page, whoever wrote it: what stands there. The rows are not tested.
@@ -92,23 +86,12 @@ pub fn build(
 /// Refusals: [`BadPageSize`](Refusal::BadPageSize), and [`TooManyRows`](Refusal::TooManyRows) where the page says that it has more than
 /// 128.
 pub fn read(page: &[u8]) -> Result<Page, Refusal> {
-    let mut out = [0; PAGE_READ_OUT];
+    let mut out = [0; PAGE_NUMBERS];
     let mut numbers = [0; PAGE_READ_ROWS];
     let mut header = [0; SETUP_HEADER_SIZE];
-    // SAFETY: all are slices of Rust's, the outputs borrowed by this call alone. The function keeps none of the pointers.
-    let number = unsafe {
-        entry::rekusoyen_page_read(
-            page.as_ptr(),
-            page.len(),
-            out.as_mut_ptr(),
-            out.len(),
-            numbers.as_mut_ptr(),
-            numbers.len(),
-            header.as_mut_ptr(),
-            header.len(),
-        )
-    };
-    answered(number)?;
+    answered(call!(rekusoyen_raw_page_read(
+        in page, mut &mut out, mut &mut numbers, mut &mut header
+    )))?;
     let [count, command_line, ramdisk, ramdisk_size] = out;
     // each is a field of four bytes, and the count one of a single byte
     let rows = numbers.chunks_exact(3).take(count as usize);

@@ -10,7 +10,8 @@ use std::ffi::CString;
 use std::fmt;
 use std::result;
 
-use crate::entry::{self, LIMIT, LINE_SIZE};
+use crate::entry::{LIMIT, LINE_SIZE};
+use crate::ffi::call;
 use crate::refusal::answered;
 use crate::{GuestAddress, GuestUsize, Refusal};
 
@@ -105,8 +106,9 @@ impl Error {
 /// Specialized [`Result`](result::Result) type for command line operations.
 pub type Result<T> = result::Result<T, Error>;
 
-/// What a call answers that the library answered with a number. The key is the one of a call that may miss a value.
-fn told(number: u32, key: &str) -> Result<()> {
+/// The result of a call that the library answered with a number. The key is that of a call in which a value may be
+/// missing.
+fn result_of(number: u32, key: &str) -> Result<()> {
     answered(number).map_err(|refusal| {
         let errors = [
             Error::NullTerminator,
@@ -158,10 +160,8 @@ impl Cmdline {
     /// ```
     pub fn new(capacity: usize) -> Result<Cmdline> {
         let mut bytes = Box::new([0; LINE_SIZE]);
-        // SAFETY: the bytes are a slice of their length, borrowed by this call alone.
-        let number =
-            unsafe { entry::rekusoyen_line_new(bytes.as_mut_ptr(), LINE_SIZE, capacity as u64) };
-        told(number, "").map(|()| Cmdline { bytes })
+        let number = call!(rekusoyen_line_new(mut &mut *bytes, capacity as u64));
+        result_of(number, "").map(|()| Cmdline { bytes })
     }
 
     /// A key, an equals sign and a value, after the boot arguments.
@@ -178,19 +178,9 @@ impl Cmdline {
     /// ```
     pub fn insert<T: AsRef<str>>(&mut self, key: T, val: T) -> Result<()> {
         let (key, val) = (key.as_ref(), val.as_ref());
-        let line = self.bytes.as_mut_ptr();
-        // SAFETY: three slices of their lengths; the line is borrowed by this call alone.
-        let number = unsafe {
-            entry::rekusoyen_line_insert(
-                line,
-                LINE_SIZE,
-                key.as_ptr(),
-                key.len(),
-                val.as_ptr(),
-                val.len(),
-            )
-        };
-        told(number, key)
+        let (line, key_text) = (&mut *self.bytes, key.as_bytes());
+        let number = call!(rekusoyen_line_insert(mut line, in key_text, in val.as_bytes()));
+        result_of(number, key)
     }
 
     /// A key, an equals sign and values joined by commas, after the boot arguments.
@@ -213,21 +203,10 @@ impl Cmdline {
             values.push_str(value.as_ref());
             ends.push(values.len());
         }
-        let line = self.bytes.as_mut_ptr();
-        // SAFETY: four slices of their lengths; the line is borrowed by this call alone.
-        let number = unsafe {
-            entry::rekusoyen_line_insert_multiple(
-                line,
-                LINE_SIZE,
-                key.as_ptr(),
-                key.len(),
-                values.as_ptr(),
-                values.len(),
-                ends.as_ptr(),
-                ends.len(),
-            )
-        };
-        told(number, key)
+        let number = call!(rekusoyen_line_insert_multiple(
+            mut &mut *self.bytes, in key.as_bytes(), in values.as_bytes(), in &ends
+        ));
+        result_of(number, key)
     }
 
     /// A text, without the blanks at its ends, after the boot arguments.
@@ -242,12 +221,9 @@ impl Cmdline {
     /// # Ok::<(), Error>(())
     /// ```
     pub fn insert_str<T: AsRef<str>>(&mut self, slug: T) -> Result<()> {
-        let slug = slug.as_ref();
-        let line = self.bytes.as_mut_ptr();
-        // SAFETY: two slices of their lengths; the line is borrowed by this call alone.
-        let number =
-            unsafe { entry::rekusoyen_line_insert_str(line, LINE_SIZE, slug.as_ptr(), slug.len()) };
-        told(number, "")
+        let slug = slug.as_ref().as_bytes();
+        let number = call!(rekusoyen_line_insert_str(mut &mut *self.bytes, in slug));
+        result_of(number, "")
     }
 
     /// A text, without the blanks at its ends, after the init arguments.
@@ -263,13 +239,9 @@ impl Cmdline {
     /// # Ok::<(), Error>(())
     /// ```
     pub fn insert_init_args<T: AsRef<str>>(&mut self, slug: T) -> Result<()> {
-        let slug = slug.as_ref();
-        let line = self.bytes.as_mut_ptr();
-        // SAFETY: two slices of their lengths; the line is borrowed by this call alone.
-        let number = unsafe {
-            entry::rekusoyen_line_insert_init_args(line, LINE_SIZE, slug.as_ptr(), slug.len())
-        };
-        told(number, "")
+        let slug = slug.as_ref().as_bytes();
+        let number = call!(rekusoyen_line_insert_init_args(mut &mut *self.bytes, in slug));
+        result_of(number, "")
     }
 
     /// The text of a virtio MMIO device, after the boot arguments: its size on the bus, its address, its interrupt, and its
@@ -292,15 +264,11 @@ impl Cmdline {
         irq: u32,
         id: Option<u32>,
     ) -> Result<()> {
-        let line = self.bytes.as_mut_ptr();
-        let (has_id, id) = (id.is_some().into(), id.unwrap_or(0));
-        // SAFETY: a slice of its length, borrowed by this call alone.
-        let number = unsafe {
-            entry::rekusoyen_line_add_virtio_mmio_device(
-                line, LINE_SIZE, size, baseaddr.0, irq, has_id, id,
-            )
-        };
-        told(number, "")
+        let (has_id, id) = (u32::from(id.is_some()), id.unwrap_or(0));
+        let number = call!(rekusoyen_line_add_virtio_mmio_device(
+            mut &mut *self.bytes, size, baseaddr.0, irq, has_id, id
+        ));
+        result_of(number, "")
     }
 
     /// The text of the line, with its closing zero.
@@ -319,18 +287,9 @@ impl Cmdline {
         // just the bytes that the line takes with its zero: the string keeps them
         let mut out = vec![0; boots + between + inits + 1];
         let mut count = [0];
-        // SAFETY: three slices of their lengths; both outputs are borrowed by this call alone.
-        let number = unsafe {
-            entry::rekusoyen_line_as_cstring(
-                self.bytes.as_ptr(),
-                LINE_SIZE,
-                out.as_mut_ptr(),
-                out.len(),
-                count.as_mut_ptr(),
-                count.len(),
-            )
-        };
-        told(number, "")?;
+        let line = self.bytes();
+        let number = call!(rekusoyen_raw_line_as_cstring(in line, mut &mut out, mut &mut count));
+        result_of(number, "")?;
         out.truncate(count[0] as usize);
         // SAFETY: an accepted call wrote so many bytes, of which the last is zero and no other: a zero in the text is refused. That is proved
         // (crates/cmdline/specs/Writing.antt), and looking for one again would take longer than the call.
@@ -349,17 +308,9 @@ impl Cmdline {
     /// ```
     pub fn try_from(cmdline_raw: &str, capacity: usize) -> Result<Cmdline> {
         let mut bytes = Box::new([0; LINE_SIZE]);
-        // SAFETY: two slices of their lengths; the line is borrowed by this call alone.
-        let number = unsafe {
-            entry::rekusoyen_line_try_from(
-                bytes.as_mut_ptr(),
-                LINE_SIZE,
-                cmdline_raw.as_ptr(),
-                cmdline_raw.len(),
-                capacity as u64,
-            )
-        };
-        told(number, "").map(|()| Cmdline { bytes })
+        let (line, text) = (&mut *bytes, cmdline_raw.as_bytes());
+        let number = call!(rekusoyen_line_try_from(mut line, in text, capacity as u64));
+        result_of(number, "").map(|()| Cmdline { bytes })
     }
 
     /// The bytes that hold the line.
@@ -401,17 +352,8 @@ impl TryFrom<Cmdline> for Vec<u8> {
 impl PartialEq for Cmdline {
     fn eq(&self, other: &Self) -> bool {
         let mut out = [0];
-        // SAFETY: three slices of their lengths; the output is borrowed by this call alone.
-        let number = unsafe {
-            entry::rekusoyen_line_equal(
-                self.bytes.as_ptr(),
-                LINE_SIZE,
-                other.bytes.as_ptr(),
-                LINE_SIZE,
-                out.as_mut_ptr(),
-                out.len(),
-            )
-        };
-        told(number, "").is_ok() && out == [1]
+        let (a, b) = (self.bytes(), other.bytes());
+        let number = call!(rekusoyen_raw_line_equal(in a, in b, mut &mut out));
+        result_of(number, "").is_ok() && out == [1]
     }
 }

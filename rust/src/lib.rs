@@ -53,7 +53,7 @@ pub mod cmdline;
 #[cfg(feature = "vm-memory")]
 pub mod configurator;
 pub mod entry;
-mod lent;
+mod ffi;
 pub mod loader;
 mod map;
 mod refusal;

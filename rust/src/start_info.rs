@@ -2,7 +2,8 @@
 //!
 //! linux-loader leaves it to the monitor to fill the structs; here the library writes block and lists and tests that they have room and are apart.
 
-use crate::entry::{self, START_BLOCK_NUMBERS, START_CHECK_OUT};
+use crate::entry::{START_BLOCK_NUMBERS, START_ROW_NUMBERS};
+use crate::ffi::call;
 use crate::loader::elf::start_info::{hvm_memmap_table_entry, hvm_modlist_entry, hvm_start_info};
 use crate::refusal::{answered, Refusal};
 use crate::{GuestAddress, Map};
@@ -86,27 +87,10 @@ pub(crate) fn write_numbers(
     modules: &[u64],
     ranges: &[u64],
 ) -> Result<(), Refusal> {
-    let numbers = map.numbers();
-    // SAFETY: all are slices of Rust's, guest memory borrowed by this call alone. The function keeps none of the pointers.
-    let number = unsafe {
-        entry::rekusoyen_start_write(
-            guest.as_mut_ptr(),
-            guest.len(),
-            numbers.as_ptr(),
-            numbers.len(),
-            start.block.0,
-            start.modules.0,
-            start.memory_map.0,
-            start.flags,
-            start.command_line,
-            start.rsdp,
-            modules.as_ptr(),
-            modules.len(),
-            ranges.as_ptr(),
-            ranges.len(),
-        )
-    };
-    answered(number)
+    answered(call!(rekusoyen_start_write(
+        mut guest, in map.numbers(), start.block.0, start.modules.0, start.memory_map.0, start.flags,
+        start.command_line, start.rsdp, in modules, in ranges
+    )))
 }
 
 /// Checks the block at an address, whoever wrote it, and reads it with its lists; `None` says that it is not accepted.
@@ -115,74 +99,41 @@ pub(crate) fn write_numbers(
 /// reserved field, the rows' too, is 0. That parts overlap is not asked. Refusals: [`BadMap`](Refusal::BadMap), and
 /// [`SliceTooLong`](Refusal::SliceTooLong).
 pub fn check(guest: &[u8], map: &Map, block: GuestAddress) -> Result<Option<Found>, Refusal> {
-    let numbers = map.numbers();
-    let mut out = [0; START_CHECK_OUT];
-    // SAFETY: all are slices of Rust's, the output borrowed by this call alone. The function keeps none of the pointers.
-    let number = unsafe {
-        entry::rekusoyen_start_check(
-            guest.as_ptr(),
-            guest.len(),
-            numbers.as_ptr(),
-            numbers.len(),
-            block.0,
-            out.as_mut_ptr(),
-            out.len(),
-        )
-    };
-    answered(number)?;
+    let mut out = [0];
+    answered(call!(rekusoyen_raw_start_check(in guest, in map.numbers(), block.0, mut &mut out)))?;
     Ok((out == [1]).then(|| found(guest, block)))
 }
 
-/// What an accepted block says.
+/// What an accepted block says. Its lists lie in guest memory.
 fn found(guest: &[u8], block: GuestAddress) -> Found {
-    let mut numbers = [0; START_BLOCK_NUMBERS];
-    read(entry::rekusoyen_start_block, guest, block.0, &mut numbers);
-    let block = hvm_start_info::from_numbers(numbers);
-    let modules = rows(
-        entry::rekusoyen_start_modules,
-        guest,
-        block.modlist_paddr,
-        block.nr_modules,
-    );
-    let ranges = rows(
-        entry::rekusoyen_start_ranges,
-        guest,
-        block.memmap_paddr,
-        block.memmap_entries,
-    );
+    let block = hvm_start_info::from_numbers(block_numbers(guest, block.0));
+    let modules = module_numbers(guest, block.modlist_paddr, block.nr_modules as usize);
+    let ranges = range_numbers(guest, block.memmap_paddr, block.memmap_entries as usize);
+    let (modules, ranges) = (modules.chunks_exact(4), ranges.chunks_exact(4));
     Found {
         block,
-        modules: modules
-            .chunks_exact(4)
-            .map(hvm_modlist_entry::from_numbers)
-            .collect(),
-        memory_map: ranges
-            .chunks_exact(4)
-            .map(hvm_memmap_table_entry::from_numbers)
-            .collect(),
+        modules: modules.map(hvm_modlist_entry::from_numbers).collect(),
+        memory_map: ranges.map(hvm_memmap_table_entry::from_numbers).collect(),
     }
 }
 
-/// A reader of rows of one kind.
-pub(crate) type Reader = unsafe extern "C" fn(*const u8, usize, u64, *mut u64, usize);
-
-/// Reads as many numbers as the list takes.
-pub(crate) fn read(reader: Reader, guest: &[u8], address: u64, numbers: &mut [u64]) {
-    // SAFETY: both are slices of Rust's, the list borrowed by this call alone. The function keeps neither pointer.
-    unsafe {
-        reader(
-            guest.as_ptr(),
-            guest.len(),
-            address,
-            numbers.as_mut_ptr(),
-            numbers.len(),
-        );
-    }
+/// The numbers of a block.
+pub(crate) fn block_numbers(guest: &[u8], block: u64) -> [u64; START_BLOCK_NUMBERS] {
+    let mut numbers = [0; START_BLOCK_NUMBERS];
+    call!(rekusoyen_raw_start_block(in guest, block, mut &mut numbers));
+    numbers
 }
 
-/// The numbers of so many rows, which lie in guest memory.
-fn rows(reader: Reader, guest: &[u8], address: u64, count: u32) -> Vec<u64> {
-    let mut numbers = vec![0; 4 * count as usize];
-    read(reader, guest, address, &mut numbers);
+/// The numbers of so many modules.
+pub(crate) fn module_numbers(guest: &[u8], modules: u64, count: usize) -> Vec<u64> {
+    let mut numbers = vec![0; START_ROW_NUMBERS * count];
+    call!(rekusoyen_start_modules(in guest, modules, mut &mut numbers));
+    numbers
+}
+
+/// The numbers of so many rows of a memory map.
+pub(crate) fn range_numbers(guest: &[u8], ranges: u64, count: usize) -> Vec<u64> {
+    let mut numbers = vec![0; START_ROW_NUMBERS * count];
+    call!(rekusoyen_start_ranges(in guest, ranges, mut &mut numbers));
     numbers
 }

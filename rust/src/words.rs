@@ -22,7 +22,7 @@
 use std::error::Error;
 use std::fmt;
 
-use crate::entry::{self, LINE_WORDS_OUT};
+use crate::ffi::call;
 use crate::refusal::answered;
 use crate::Refusal;
 
@@ -80,34 +80,22 @@ pub fn words(line: &[u8]) -> Result<Words<'_>, UnclosedQuote> {
     // two words have a space between them, so that there are no more than these
     let most = line.len() / 2 + line.len() % 2;
     let mut places = [vec![0; most], vec![0; most], vec![0; most]];
-    let mut out = [0u64; LINE_WORDS_OUT];
+    let mut out = [0];
     let [starts, ends, splits] = &mut places;
-    // SAFETY: each pointer is that of a slice, with its own length, which lives through the call; what is `mut` is lent to it alone.
-    let number = unsafe {
-        entry::rekusoyen_line_words(
-            line.as_ptr(),
-            line.len(),
-            starts.as_mut_ptr(),
-            starts.len(),
-            ends.as_mut_ptr(),
-            ends.len(),
-            splits.as_mut_ptr(),
-            splits.len(),
-            out.as_mut_ptr(),
-            out.len(),
-        )
-    };
-    // every place is one of the line, or its end
-    let told = out[0] as usize;
+    let number = call!(rekusoyen_raw_line_words(
+        in line, mut starts, mut ends, mut splits, mut &mut out
+    ));
+    // a count of words, or an index of the line
+    let found = out[0] as usize;
     match answered(number) {
         Ok(()) => {
             for list in &mut places {
-                list.truncate(told);
+                list.truncate(found);
             }
             let next = 0;
             Ok(Words { line, places, next })
         }
-        Err(Refusal::UnclosedQuote) => Err(UnclosedQuote { place: told }),
+        Err(Refusal::UnclosedQuote) => Err(UnclosedQuote { place: found }),
         Err(refusal) => {
             unreachable!("the lists have their sizes, and the library said {refusal:?}")
         }

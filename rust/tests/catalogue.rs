@@ -88,69 +88,50 @@ fn defined(name: &str) -> &'static str {
 #[test]
 fn sizes_flags_and_codes_are_those_of_the_header() {
     let numbers = [
-        ("REKUSOYEN_LINE_LIMIT", entry::LIMIT.to_string()),
-        (
-            "REKUSOYEN_SETUP_HEADER_SIZE",
-            entry::SETUP_HEADER_SIZE.to_string(),
-        ),
-        (
-            "REKUSOYEN_OFFSET_GIVEN",
-            format!("{}u", entry::OFFSET_GIVEN),
-        ),
-        (
-            "REKUSOYEN_HIGHMEM_GIVEN",
-            format!("{}u", entry::HIGHMEM_GIVEN),
-        ),
-        ("REKUSOYEN_PVH_IGNORED", format!("{}u", entry::PVH_IGNORED)),
-        (
-            "REKUSOYEN_PVH_NOT_PRESENT",
-            format!("{}u", entry::PVH_NOT_PRESENT),
-        ),
-        ("REKUSOYEN_PVH_PRESENT", format!("{}u", entry::PVH_PRESENT)),
-        ("REKUSOYEN_MAP_RANGES", entry::MAP_RANGES.to_string()),
-        ("REKUSOYEN_ELF_LOAD_OUT", entry::ELF_LOAD_OUT.to_string()),
-        ("REKUSOYEN_ELF_STATE", entry::ELF_STATE.to_string()),
-        ("REKUSOYEN_ELF_STEP_OUT", entry::ELF_STEP_OUT.to_string()),
-        ("REKUSOYEN_ELF_NOTE_OUT", entry::ELF_NOTE_OUT.to_string()),
-        (
-            "REKUSOYEN_BZIMAGE_LOAD_OUT",
-            entry::BZIMAGE_LOAD_OUT.to_string(),
-        ),
-        ("REKUSOYEN_ELF_PLAN_OUT", entry::ELF_PLAN_OUT.to_string()),
-        ("REKUSOYEN_ELF_PART_OUT", entry::ELF_PART_OUT.to_string()),
-        (
-            "REKUSOYEN_BZIMAGE_PLAN_OUT",
-            entry::BZIMAGE_PLAN_OUT.to_string(),
-        ),
-        (
-            "REKUSOYEN_ARM64_PLAN_OUT",
-            entry::ARM64_PLAN_OUT.to_string(),
-        ),
-        (
-            "REKUSOYEN_LINE_WORDS_OUT",
-            entry::LINE_WORDS_OUT.to_string(),
-        ),
-        (
-            "REKUSOYEN_START_CHECK_OUT",
-            entry::START_CHECK_OUT.to_string(),
-        ),
-        (
-            "REKUSOYEN_START_BLOCK_NUMBERS",
-            entry::START_BLOCK_NUMBERS.to_string(),
-        ),
-        (
-            "REKUSOYEN_START_ROW_NUMBERS",
-            entry::START_ROW_NUMBERS.to_string(),
-        ),
+        ("LINE_LIMIT", entry::LIMIT),
+        ("SETUP_HEADER_SIZE", entry::SETUP_HEADER_SIZE),
+        ("PAGE_SIZE", entry::PAGE_SIZE),
+        ("PAGE_ROWS", entry::PAGE_ROWS),
+        ("MAP_RANGES", entry::MAP_RANGES),
+        ("KERNEL_NUMBERS", entry::KERNEL_NUMBERS),
+        ("PLAN_NUMBERS", entry::PLAN_NUMBERS),
+        ("PART_NUMBERS", entry::PART_NUMBERS),
+        ("STATE_NUMBERS", entry::STATE_NUMBERS),
+        ("STEP_NUMBERS", entry::STEP_NUMBERS),
+        ("NOTE_NUMBERS", entry::NOTE_NUMBERS),
+        ("PAGE_NUMBERS", entry::PAGE_NUMBERS),
+        ("START_BLOCK_NUMBERS", entry::START_BLOCK_NUMBERS),
+        ("START_ROW_NUMBERS", entry::START_ROW_NUMBERS),
     ];
     for (name, number) in numbers {
-        assert_eq!(defined(name), number, "{name}");
+        let name = format!("REKUSOYEN_{name}");
+        assert_eq!(defined(&name), number.to_string(), "{name}");
+    }
+    let codes = [
+        ("UNKNOWN", entry::UNKNOWN.into()),
+        ("ELF", entry::ELF.into()),
+        ("BZIMAGE", entry::BZIMAGE.into()),
+        ("ARM64", entry::ARM64.into()),
+        ("OFFSET_GIVEN", entry::OFFSET_GIVEN.into()),
+        ("HIGHMEM_GIVEN", entry::HIGHMEM_GIVEN.into()),
+        ("PVH_IGNORED", entry::PVH_IGNORED),
+        ("PVH_NOT_PRESENT", entry::PVH_NOT_PRESENT),
+        ("PVH_PRESENT", entry::PVH_PRESENT),
+    ];
+    for (name, code) in codes {
+        let name = format!("REKUSOYEN_{name}");
+        assert_eq!(defined(&name), format!("{code}u"), "{name}");
     }
     assert_eq!(
         defined("REKUSOYEN_LINE_SIZE"),
         "(24 + 2 * REKUSOYEN_LINE_LIMIT)"
     );
     assert_eq!(entry::LINE_SIZE, 24 + 2 * entry::LIMIT);
+    assert_eq!(
+        defined("REKUSOYEN_PAGE_READ_ROWS"),
+        "(3 * REKUSOYEN_PAGE_ROWS)"
+    );
+    assert_eq!(entry::PAGE_READ_ROWS, 3 * entry::PAGE_ROWS);
     assert_eq!(defined("REKUSOYEN_LONGEST_SLICE"), "((uint64_t)1 << 40)");
     assert_eq!(entry::LONGEST_SLICE, 1 << 40);
 }

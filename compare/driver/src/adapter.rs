@@ -8,6 +8,7 @@ use crate::answer::{
     Answer, Arm64Loaded, BzimageLoaded, CallAnswer, ElfLoaded, Note, NoteWalked, PageFound, Pvh,
     StartFound, StepTold, StepsTold, Told,
 };
+use crate::desk::GUEST;
 use crate::lists::Lists;
 use crate::question::{
     Call, Load, Loader, PageBuild, PageRead, Question, StartCheck, StartWrite, Steps, Walk, Words,
@@ -53,10 +54,12 @@ pub fn answer_by(question: &Question, rules: second::Rules) -> Answer {
         Question::Arm64(load) => answer_arm64(load, &map),
         Question::StartWrite(write) => answer_start(write),
         Question::StartCheck(check) => Answer::StartCheck(answer_check(check)),
-        Question::Job(asked) => {
-            let mut guest = asked.guest.clone();
+        Question::Job(bytes) => {
+            // not 0, so that it shows whether guest memory was cleared
+            let mut guest = vec![UNTOUCHED; GUEST];
             let switched_on = second::Rules::landed().switched_on;
-            let text = desk::run(Rules { switched_on }, &mut guest, &asked.bytes);
+            let text = desk::run(Rules { switched_on }, &mut guest, bytes);
+            let guest = Some(guest);
             Answer::Job { text, guest }
         }
     }

@@ -118,7 +118,8 @@ pub enum Answer {
     Job {
         /// What is printed.
         text: String,
-        guest: Vec<u8>,
+        /// What a program leaves in its guest memory is not seen.
+        guest: Option<Vec<u8>>,
     },
 }
 
@@ -155,7 +156,7 @@ pub struct WordsRead {
 }
 
 impl Answer {
-    /// The line that the probe writes for this answer, without its line feed. `before` is the guest's first content.
+    /// The line that the sample has for this answer, without its line feed. `before` is the guest's first content.
     pub fn line(&self, before: &[u8]) -> String {
         let mut line = String::new();
         match self {
@@ -229,10 +230,7 @@ impl Answer {
             }
             Answer::StartCheck(Ok(None)) => line += "start not accepted",
             Answer::StartCheck(Err(number)) => line += &format!("start refused {number}"),
-            Answer::Job { text, guest } => {
-                line += &format!("job {}", hex(text.as_bytes()));
-                put_guest(&mut line, before, guest);
-            }
+            Answer::Job { text, .. } => line += &format!("job {text:?}"),
         }
         line
     }

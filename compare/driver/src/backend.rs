@@ -1,4 +1,4 @@
-//! Whoever answers questions.
+//! What answers questions.
 
 use crate::answer::Answer;
 use crate::compare;
@@ -8,10 +8,10 @@ use second::Rules;
 /// What came back for one question.
 #[derive(Clone, Debug)]
 pub enum Reply {
-    /// An answer from inside this process, with the guest's every byte.
+    /// An answer.
     Answer(Answer),
-    /// The line that a program wrote.
-    Line(String),
+    /// No answer, and why.
+    Failed(String),
     /// The question lies outside what this backend is compared on.
     Outside,
 }
@@ -25,14 +25,6 @@ pub trait Backend {
     }
 
     fn ask(&mut self, question: &Question) -> Reply;
-
-    /// Asks many questions. A program over a pipe reads ahead, so that it is not waited for at each.
-    fn ask_all(&mut self, questions: &[Question]) -> Vec<Reply> {
-        questions
-            .iter()
-            .map(|question| self.ask(question))
-            .collect()
-    }
 
     /// Whether this backend's reply agrees with the answer that is wanted.
     fn agrees(&self, question: &Question, wanted: &Answer, reply: &Reply) -> bool {

@@ -1,17 +1,14 @@
 //! The commands.
 
 use crate::backend::Maker;
-use crate::desk_jobs;
+use crate::desk::{self, Desk};
 use crate::images::images;
 use crate::over_second;
-use crate::pipe::Pipe;
 use crate::planted_run::planted;
 use crate::question::Area;
 use crate::report::report;
 use crate::run::{run, Plan, EXHAUSTIVE_PARTS};
 use crate::sample;
-use crate::stand_in;
-use std::io::{stdin, stdout};
 use std::path::Path;
 use std::process::exit;
 use std::thread::available_parallelism;
@@ -19,30 +16,33 @@ use std::thread::available_parallelism;
 const USAGE: &str = "\
 compare run [WORDS]       asks everyone the same questions and compares all answers
 compare planted [WORDS]   plants mistakes in a copy of the second program; each must be noticed
-compare sample FOLDER     writes a sample of questions to FOLDER/stdin, and the answers to FOLDER/stdout
+compare sample FOLDER     writes a sample of questions to FOLDER/questions, and the answers to FOLDER/answers
 compare images FILE..     loads real images by everyone and compares
-compare answer            answers questions from standard input with the second program
-compare desk PROGRAM ..   runs the desk program on every way to print and to break a job
 
 --seed N                  the seed, 1 where none is given: one seed, one result
 --threads N               how many threads ask, one for each processor where none is given
 --elf N --note N --bzimage N --line N --load N --words N --page N --steps N --arm64 N --start N --job N
                           how many random questions of each area, beside the exhaustive ones
 --exhaustive N            how many sixteenths of the exhaustive questions are asked, all 16 where none is given
---probe 'PROGRAM WORD..'  the proved program, asked over a pipe
+--tables N                how many 64ths of the small tables of jobs are asked, 4 if none is given
+--desk 'PROGRAM WORD..'   the desk program, which is started for each job; without it jobs are asked of nobody
 ";
 
-/// How many random questions are asked where nothing else is said: two minutes for a program under an emulator, seconds else.
+/// How many random questions are asked if nothing else is said. A job starts a program, under an emulator on Arm.
 const RANDOM: [u64; Area::COUNT] = [
-    600_000, 200_000, 300_000, 200_000, 100_000, 100_000, 60_000, 80_000, 200_000, 150_000, 30_000,
+    600_000, 200_000, 300_000, 200_000, 100_000, 100_000, 60_000, 80_000, 200_000, 150_000, 500,
 ];
+
+/// How many of the 64 parts of the small tables of jobs are asked if nothing else is said.
+const TABLES: usize = 4;
 
 struct Words {
     seed: u64,
     threads: usize,
     random: [u64; Area::COUNT],
     exhaustive: usize,
-    probe: Option<String>,
+    tables: usize,
+    desk: Option<String>,
     others: Vec<String>,
 }
 
@@ -59,26 +59,34 @@ pub fn main(in_process: InProcess) {
     let mut arguments = std::env::args().skip(1);
     let command = arguments.next().unwrap_or_default();
     let words = words(arguments);
-    let probe = words.probe.clone().map(probe_maker);
+    let program = words.desk.as_ref().map(|desk| program(desk));
+    let desk: Option<Maker> = program.clone().map(|program| -> Maker {
+        Box::new(move || {
+            let program = program.clone();
+            Box::new(Desk { program })
+        })
+    });
     let InProcess { published, library } = &in_process;
-    let backends: Vec<&Maker> = published.iter().chain(library).chain(&probe).collect();
+    let backends: Vec<&Maker> = published.iter().chain(library).chain(&desk).collect();
     let good = match command.as_str() {
         "run" if backends.is_empty() => {
-            eprintln!("compare: there is nobody to compare the second program with; --probe names a program");
+            eprintln!("compare: there is nobody to compare the second program with");
             exit(2)
         }
         "run" => {
             let plan = Plan {
                 seed: words.seed,
-                areas: Area::ALL.to_vec(),
+                areas: areas(program.is_some()),
                 random: words.random,
                 exhaustive: words.exhaustive,
+                tables: words.tables,
                 threads: words.threads,
                 stop_at_difference: false,
                 show_progress: true,
             };
             let outcome = run(&plan, over_second::answer_by, &backends);
-            report(&outcome, &backends)
+            let jobs_agree = program.map_or(true, |program| or_exit(desk::run(&program)));
+            report(&outcome, &backends) && jobs_agree
         }
         "planted" => planted(words.seed, words.threads, published.as_ref()),
         "sample" => match words.others.as_slice() {
@@ -88,10 +96,6 @@ pub fn main(in_process: InProcess) {
             _ => usage(),
         },
         "images" => or_exit(images(&words.others, &backends)),
-        "desk" if !words.others.is_empty() => or_exit(desk_jobs::run(&words.others)),
-        "answer" => {
-            or_exit(stand_in::answer_all(&mut stdin().lock(), &mut stdout()).map(|()| true))
-        }
         _ => usage(),
     };
     exit(i32::from(!good));
@@ -103,7 +107,8 @@ fn words(arguments: impl Iterator<Item = String>) -> Words {
         threads: available_parallelism().map_or(2, usize::from),
         random: RANDOM,
         exhaustive: EXHAUSTIVE_PARTS,
-        probe: None,
+        tables: TABLES,
+        desk: None,
         others: Vec::new(),
     };
     let mut arguments = arguments;
@@ -120,7 +125,8 @@ fn words(arguments: impl Iterator<Item = String>) -> Words {
             "seed" => words.seed = number(),
             "threads" => words.threads = number() as usize,
             "exhaustive" => words.exhaustive = number() as usize,
-            "probe" => words.probe = Some(value),
+            "tables" => words.tables = number() as usize,
+            "desk" => words.desk = Some(value),
             _ => match Area::named(name) {
                 Some(area) => words.random[area as usize] = number(),
                 None => usage(),
@@ -130,12 +136,19 @@ fn words(arguments: impl Iterator<Item = String>) -> Words {
     words
 }
 
-fn probe_maker(command: String) -> Maker {
+/// The areas that are asked about: jobs if there is a desk program.
+fn areas(jobs: bool) -> Vec<Area> {
+    let areas = Area::ALL.into_iter();
+    areas.filter(|area| jobs || *area != Area::Job).collect()
+}
+
+/// The name and arguments of a program.
+fn program(command: &str) -> Vec<String> {
     let words: Vec<String> = command.split_whitespace().map(String::from).collect();
     if words.is_empty() {
         usage();
     }
-    Box::new(move || Box::new(or_exit(Pipe::start(&words))))
+    words
 }
 
 fn or_exit<T>(result: std::io::Result<T>) -> T {

@@ -8,16 +8,19 @@ use crate::unclaimed;
 
 /// Whether a backend's reply agrees with the second program's answer.
 pub fn agrees(question: &Question, wanted: &Answer, reply: &Reply) -> bool {
-    if let (Question::Steps(asked), Answer::Steps(wanted)) = (question, wanted) {
+    let answer = match reply {
+        Reply::Outside => return true,
+        Reply::Failed(_) => return false,
+        Reply::Answer(answer) => answer,
+    };
+    if let (Question::Steps(asked), Answer::Steps(wanted), Answer::Steps(told)) =
+        (question, wanted, answer)
+    {
         if let Some(claimed) = unclaimed::first(asked, wanted) {
-            return unclaimed::agrees(asked, wanted, claimed, reply);
+            return unclaimed::agrees(asked, wanted, claimed, told);
         }
     }
-    match reply {
-        Reply::Outside => true,
-        Reply::Line(line) => *line == wanted.line(question.guest()),
-        Reply::Answer(answer) => answers_agree(wanted, answer),
-    }
+    answers_agree(wanted, answer)
 }
 
 /// Whether the crate's reply agrees, but for where a failed copy was to go.
@@ -90,6 +93,14 @@ fn answers_agree(wanted: &Answer, other: &Answer) -> bool {
                 guest: other_guest,
             },
         ) => calls_agree(calls, other_calls) && outcome == other_outcome && guest == other_guest,
+        // guest memory of a program is not seen
+        (
+            Answer::Job { text, .. },
+            Answer::Job {
+                text: other,
+                guest: None,
+            },
+        ) => text == other,
         _ => wanted == other,
     }
 }

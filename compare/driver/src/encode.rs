@@ -1,28 +1,6 @@
-//! Questions as bytes, in the form that `docs/PROBE.md` gives.
+//! Questions as bytes, in the form that `docs/SAMPLE.md` gives.
 
 use crate::question::{Call, Load, Loader, Map, Options, Question, Steps};
-
-/// The most bytes of an image or of a guest that the form takes.
-pub const LARGEST: usize = 1 << 20;
-
-/// The most places of a list for words that the form takes.
-pub const MOST_PLACES: u32 = 8192;
-
-/// Whether the form takes the question.
-pub fn fits(question: &Question) -> bool {
-    let image = match question {
-        Question::Elf(load) | Question::Bzimage(load) | Question::Arm64(load) => &load.image,
-        Question::Note(walk) => &walk.image,
-        Question::Line(_) | Question::LineLoad(_) => return question.guest().len() <= LARGEST,
-        Question::Words(words) => return words.places.iter().all(|count| *count <= MOST_PLACES),
-        Question::PageBuild(_) | Question::PageRead(_) | Question::Job(_) => return true,
-        Question::Steps(steps) => &steps.bytes,
-        Question::StartWrite(_) | Question::StartCheck(_) => {
-            return question.guest().len() <= LARGEST;
-        }
-    };
-    image.len() <= LARGEST && question.guest().len() <= LARGEST
-}
 
 /// The question with its length in front.
 pub fn framed(question: &Question) -> Vec<u8> {
@@ -116,12 +94,7 @@ fn body(question: &Question) -> Vec<u8> {
             out.extend(check.block.to_le_bytes());
             out.extend(&check.guest);
         }
-        Question::Job(job) => {
-            out.push(18);
-            put_length4(&mut out, &job.guest);
-            out.push(job.guest.first().copied().unwrap_or(0));
-            out.extend(&job.bytes);
-        }
+        Question::Job(_) => unreachable!("jobs are asked of the desk program only"),
     }
     out
 }

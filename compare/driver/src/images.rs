@@ -1,7 +1,6 @@
 //! Real images: files that are loaded by everyone and compared.
 
 use crate::backend::{Maker, Reply};
-use crate::encode::LARGEST;
 use crate::over_second;
 use crate::question::{Load, Options, Question};
 use crate::report::line_of;
@@ -9,12 +8,8 @@ use crate::rng::Rng;
 use std::io::Result;
 use std::path::Path;
 
-/// How much guest memory there is: enough for a kernel at its own address, or what the probe takes.
+/// How much guest memory there is: enough for a kernel at its own address.
 const GUEST: usize = 128 << 20;
-const SMALL_GUEST: usize = LARGEST;
-
-/// Where a small image goes in small guest memory: its own address may be 1 MiB, where that ends.
-const LOW: u64 = 0x1000;
 
 /// A base of an arm64 Image, 2 MiB, beside 0.
 const ARM64_BASE: u64 = 2 << 20;
@@ -47,30 +42,24 @@ pub fn images(files: &[String], backends: &[&Maker]) -> Result<bool> {
     Ok(all_agree)
 }
 
-/// The loads of an image, as an ELF or arm64 one where it has that magic and as a bzImage elsewhere: at its own address, an arm64 one behind two bases,
-/// and where it is small once more in guest memory that the probe takes.
+/// The loads of an image, as an ELF or arm64 one if it has that magic number and else as a bzImage: at its own
+/// address, an arm64 one at two bases.
 fn questions(image: &[u8]) -> Vec<Question> {
-    let load = |offset, guest| Load {
+    let load = |offset| Load {
         options: Options {
             offset,
             highmem: None,
         },
         map: None,
         image: image.to_vec(),
-        guest: Rng::new(1).bytes(guest),
+        guest: Rng::new(1).bytes(GUEST),
     };
     if image.starts_with(b"\x7fELF") {
-        return vec![Question::Elf(load(None, GUEST))];
+        return vec![Question::Elf(load(None))];
     }
     if image.get(56..60) == Some(b"ARM\x64") {
         let bases = [None, Some(ARM64_BASE)];
-        return bases
-            .map(|base| Question::Arm64(load(base, GUEST)))
-            .to_vec();
+        return bases.map(|base| Question::Arm64(load(base))).to_vec();
     }
-    let mut questions = vec![Question::Bzimage(load(None, GUEST))];
-    if image.len() <= SMALL_GUEST / 2 {
-        questions.push(Question::Bzimage(load(Some(LOW), SMALL_GUEST)));
-    }
-    questions
+    vec![Question::Bzimage(load(None))]
 }

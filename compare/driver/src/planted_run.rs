@@ -4,7 +4,7 @@ use crate::backend::Maker;
 use crate::over_planted;
 use crate::over_second::Second;
 use crate::question::Area;
-use crate::run::{run, Plan, EXHAUSTIVE_PARTS};
+use crate::run::{run, Plan, EXHAUSTIVE_PARTS, TABLE_PARTS};
 use second::Rules;
 
 /// Enough random questions for a rare path, after all the exhaustive ones.
@@ -28,6 +28,7 @@ pub fn planted(seed: u64, threads: usize, published: Option<&Maker>) -> bool {
         areas: Area::ALL.to_vec(),
         random: RANDOM.map(|count| count / 8),
         exhaustive: EXHAUSTIVE_PARTS,
+        tables: TABLE_PARTS,
         threads,
         stop_at_difference: true,
         show_progress: false,

@@ -1,4 +1,4 @@
-//! What is asked. `docs/PROBE.md` has the meaning of each kind; this is the same in Rust.
+//! What is asked. `docs/SAMPLE.md` has the meaning of each kind but jobs; this is the same in Rust.
 
 use second::map::whole;
 
@@ -146,13 +146,6 @@ impl Steps {
     }
 }
 
-/// A job of the desk program, over guest memory all of whose bytes are one.
-#[derive(Clone, Debug, PartialEq, Eq)]
-pub struct Job {
-    pub guest: Vec<u8>,
-    pub bytes: Vec<u8>,
-}
-
 #[derive(Clone, Debug, PartialEq, Eq)]
 pub enum Question {
     Elf(Load),
@@ -168,7 +161,8 @@ pub enum Question {
     Arm64(Load),
     StartWrite(StartWrite),
     StartCheck(StartCheck),
-    Job(Job),
+    /// A job of the desk program.
+    Job(Vec<u8>),
 }
 
 /// A line to read the words of, and how many places each of the three lists has.
@@ -294,10 +288,11 @@ impl Question {
             Question::Steps(steps) => &steps.guest,
             Question::StartWrite(write) => &write.guest,
             Question::StartCheck(check) => &check.guest,
-            Question::Job(job) => &job.guest,
-            Question::Note(_) | Question::Line(_) | Question::Words(_) | Question::PageRead(_) => {
-                &[]
-            }
+            Question::Note(_)
+            | Question::Line(_)
+            | Question::Words(_)
+            | Question::PageRead(_)
+            | Question::Job(_) => &[],
         }
     }
 

@@ -56,7 +56,7 @@ fn difference_text(question: Question, backend: &mut dyn Backend) -> String {
 pub fn line_of(question: &Question, reply: &Reply) -> String {
     match reply {
         Reply::Answer(answer) => answer.line(question.guest()),
-        Reply::Line(line) => line.clone(),
+        Reply::Failed(why) => format!("({why})"),
         Reply::Outside => "outside the domain".into(),
     }
 }

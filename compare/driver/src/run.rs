@@ -10,16 +10,17 @@ use std::sync::atomic::{AtomicBool, AtomicUsize, Ordering};
 use std::sync::Mutex;
 use std::time::{Duration, Instant};
 
-/// How many questions are asked at a time, and how many make a part. A part has random numbers of its own, so that the result
-/// does not depend on how many threads there are.
-const BATCH: usize = 64;
+/// How many random questions make a part. A part has random numbers of its own, so that the result does not depend on
+/// how many threads there are.
 const PART: u64 = 8192;
 /// One in so many random ELF loads is about the rules that depart from the published crate's.
 const DEPARTING: u64 = 4;
 /// One in so many random questions with a guest is over a map.
 const OVER_MAP: u64 = 3;
-/// The exhaustive questions of an area are dealt out to this many parts.
+/// The exhaustive questions of an area are dealt out to this many parts, and the tables of jobs to more, since each
+/// starts a program.
 pub const EXHAUSTIVE_PARTS: usize = 16;
+pub const TABLE_PARTS: usize = 64;
 
 pub struct Plan {
     pub seed: u64,
@@ -29,6 +30,8 @@ pub struct Plan {
     pub random: [u64; Area::COUNT],
     /// How many parts of the exhaustive questions are asked, too.
     pub exhaustive: usize,
+    /// And how many of the tables of jobs.
+    pub tables: usize,
     pub threads: usize,
     /// Ends at the first difference.
     pub stop_at_difference: bool,
@@ -106,8 +109,11 @@ pub fn run(plan: &Plan, wanted: Wanted, backends: &[&Maker]) -> Outcome {
 /// All parts, the areas in turn, so that a mistake in any area is met early.
 fn parts(plan: &Plan) -> Vec<Part> {
     let mut parts = Vec::new();
-    for part in 0..plan.exhaustive.min(EXHAUSTIVE_PARTS) {
-        let of_part = plan.areas.iter();
+    for part in 0..EXHAUSTIVE_PARTS.max(TABLE_PARTS) {
+        let of_part = plan.areas.iter().filter(|area| match area {
+            Area::Job => part < plan.tables.min(TABLE_PARTS),
+            _ => part < plan.exhaustive.min(EXHAUSTIVE_PARTS),
+        });
         parts.extend(of_part.map(|area| (*area, Source::Exhaustive { part })));
     }
     let longest = plan.random.iter().max().expect("there are areas");
@@ -134,40 +140,34 @@ fn run_part(
         compared_over_maps: vec![0; backends.len()],
         ..Outcome::default()
     };
-    let mut batches = batches(plan.seed, area, source);
-    loop {
-        let questions: Vec<Question> = batches.by_ref().take(BATCH).collect();
-        if questions.is_empty() {
-            return outcome;
+    for question in questions(plan.seed, area, source) {
+        let answers = Answers::to(&question, wanted);
+        outcome.cases[area as usize] += 1;
+        outcome.over_maps += u64::from(question.map().is_some());
+        for number in answers.landed.numbers() {
+            *outcome.numbers.entry(number).or_default() += 1;
         }
-        let answers = questions
-            .iter()
-            .map(|question| Answers::to(question, wanted));
-        let answers: Vec<Answers> = answers.collect();
-        outcome.cases[area as usize] += questions.len() as u64;
-        for (question, answers) in questions.iter().zip(&answers) {
-            outcome.over_maps += u64::from(question.map().is_some());
-            for number in answers.landed.numbers() {
-                *outcome.numbers.entry(number).or_default() += 1;
-            }
-            if let Some(names) = answers.explained(question, wanted) {
-                *outcome.departures.entry(names).or_default() += 1;
-            }
+        if let Some(names) = answers.explained(&question, wanted) {
+            *outcome.departures.entry(names).or_default() += 1;
         }
         for (index, backend) in backends.iter_mut().enumerate() {
-            outcome.compare(&questions, &answers, index, backend.as_mut());
+            outcome.compare(&question, &answers, index, backend.as_mut());
         }
         if plan.stop_at_difference && outcome.difference_count > 0 {
-            return outcome;
+            break;
         }
     }
+    outcome
 }
 
-fn batches(seed: u64, area: Area, source: Source) -> Box<dyn Iterator<Item = Question>> {
+fn questions(seed: u64, area: Area, source: Source) -> Box<dyn Iterator<Item = Question>> {
     match source {
         Source::Exhaustive { part } => {
-            let all = generate::exhaustive(area);
-            Box::new(all.skip(part).step_by(EXHAUSTIVE_PARTS))
+            let parts = match area {
+                Area::Job => TABLE_PARTS,
+                _ => EXHAUSTIVE_PARTS,
+            };
+            Box::new(generate::exhaustive(area).skip(part).step_by(parts))
         }
         Source::Random { part, count } => {
             let mut rng = Rng::for_part(seed, area as u64, part);
@@ -191,26 +191,23 @@ impl Outcome {
 
     fn compare(
         &mut self,
-        questions: &[Question],
-        answers: &[Answers],
+        question: &Question,
+        answers: &Answers,
         index: usize,
         backend: &mut dyn Backend,
     ) {
-        let replies = backend.ask_all(questions);
-        for ((question, answers), reply) in questions.iter().zip(answers).zip(&replies) {
-            let answer = answers.by(backend.rules());
-            if !matches!(reply, Reply::Outside) {
-                self.compared[index][question.area() as usize] += 1;
-                self.compared_over_maps[index] += u64::from(question.map().is_some());
-            }
-            if !backend.agrees(question, answer, reply) {
-                self.difference_count += 1;
-                if self.differences.len() < Outcome::KEPT {
-                    self.differences.push(Difference {
-                        question: question.clone(),
-                        backend: index,
-                    });
-                }
+        let reply = backend.ask(question);
+        if !matches!(reply, Reply::Outside) {
+            self.compared[index][question.area() as usize] += 1;
+            self.compared_over_maps[index] += u64::from(question.map().is_some());
+        }
+        if !backend.agrees(question, answers.by(backend.rules()), &reply) {
+            self.difference_count += 1;
+            if self.differences.len() < Outcome::KEPT {
+                self.differences.push(Difference {
+                    question: question.clone(),
+                    backend: index,
+                });
             }
         }
     }
@@ -305,6 +302,7 @@ mod tests {
             areas: Area::ALL.to_vec(),
             random: [300, 300, 20, 9000, 300, 300, 40, 50, 30, 300, 40],
             exhaustive: 0,
+            tables: 0,
             threads,
             stop_at_difference: false,
             show_progress: false,

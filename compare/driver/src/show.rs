@@ -37,11 +37,7 @@ pub fn show(question: &Question) -> String {
             check.map,
             show_bytes("guest", &check.guest)
         ),
-        Question::Job(job) => format!(
-            "a job over {} bytes of guest memory\n{}",
-            job.guest.len(),
-            show_bytes("job", &job.bytes)
-        ),
+        Question::Job(job) => format!("a job\n{}", show_bytes("job", job)),
     }
 }
 

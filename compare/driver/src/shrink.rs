@@ -1,7 +1,7 @@
 //! Makes a differing question as small as it can be while it still differs.
 
 use crate::question::{
-    Call, Job, Load, Map, PageBuild, PageRead, Question, StartCheck, StartWrite, Steps, Words,
+    Call, Load, Map, PageBuild, PageRead, Question, StartCheck, StartWrite, Steps, Words,
 };
 
 /// How many questions are asked at most in search of a smaller one.
@@ -110,13 +110,7 @@ fn smaller(question: &Question) -> Vec<Question> {
             }
             all.into_iter().map(Question::StartCheck).collect()
         }
-        Question::Job(job) => smaller_bytes(&job.bytes)
-            .map(|bytes| Job {
-                bytes,
-                ..job.clone()
-            })
-            .map(Question::Job)
-            .collect(),
+        Question::Job(job) => smaller_bytes(job).map(Question::Job).collect(),
     }
 }
 

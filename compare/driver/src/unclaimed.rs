@@ -1,8 +1,7 @@
 //! Loads in steps whose image changes between the steps. From there on the match with the whole load is not claimed: a step keeps to its
 //! budget and to the ranges of the map, and what is refused is refused as ever.
 
-use crate::answer::{Answer, StepTold, StepsTold};
-use crate::backend::Reply;
+use crate::answer::{StepTold, StepsTold};
 use crate::question::Steps;
 
 /// The first step with another image than the first step's, if the load was not answered before it.
@@ -22,49 +21,25 @@ pub fn first(asked: &Steps, wanted: &StepsTold) -> Option<usize> {
     None
 }
 
-/// Whether a reply agrees up to a call, and keeps to what is promised from it on.
-pub fn agrees(asked: &Steps, wanted: &StepsTold, claimed: usize, reply: &Reply) -> bool {
-    let before = &asked.guest;
-    let wanted_line = Answer::Steps(wanted.clone()).line(before);
-    match reply {
-        Reply::Outside => true,
-        Reply::Line(line) => line_agrees(asked, &wanted_line, claimed, line),
-        Reply::Answer(answer @ Answer::Steps(told)) => {
-            line_agrees(asked, &wanted_line, claimed, &answer.line(before))
-                && keeps_to_ranges(asked, claimed, &told.guest)
-        }
-        Reply::Answer(_) => false,
-    }
-}
-
-fn line_agrees(asked: &Steps, wanted: &str, claimed: usize, line: &str) -> bool {
-    let parted = |line: &str| -> Option<(Vec<String>, Vec<u64>)> {
-        let (calls, guest) = line.split_once(" guest ")?;
-        let calls = calls.split(" | ").map(String::from).collect();
-        let numbers = guest.split(' ').map(|number| number.parse().ok());
-        Some((calls, numbers.collect::<Option<Vec<u64>>>()?))
-    };
-    let (Some((wanted, _)), Some((calls, guest))) = (parted(wanted), parted(line)) else {
-        return false;
-    };
-    // the first word is the kind's
-    if calls.len() != wanted.len() || calls[..=claimed] != wanted[..=claimed] {
+/// Whether an answer agrees up to a call, and keeps to what is promised from that call on.
+pub fn agrees(asked: &Steps, wanted: &StepsTold, claimed: usize, told: &StepsTold) -> bool {
+    let (calls, guest) = (&told.calls, &told.guest);
+    if calls.len() != wanted.calls.len() || calls[..claimed] != wanted.calls[..claimed] {
         return false;
     }
     let mut most = 0u64;
-    for ((call, told), wanted) in asked.calls.iter().zip(&calls[1..]).zip(&wanted[1..]) {
-        let is_step = !wanted.starts_with("refused");
-        let copied = told.split(' ').next().and_then(|word| word.parse().ok());
-        match copied {
-            Some(copied) if is_step && copied <= call.budget => most = most.saturating_add(copied),
-            None if !is_step && told == wanted => {}
+    for ((call, told), wanted) in asked.calls.iter().zip(calls).zip(&wanted.calls) {
+        match (told, wanted) {
+            (StepTold::Step(copied, _), StepTold::Step(..)) if *copied <= call.budget => {
+                most = most.saturating_add(*copied);
+            }
+            (StepTold::Refused(number), StepTold::Refused(wanted)) if number == wanted => {}
             _ => return false,
         }
     }
-    let [length, _, changed, ..] = guest[..] else {
-        return false;
-    };
-    length == asked.guest.len() as u64 && changed <= most
+    let bytes = guest.iter().zip(&asked.guest);
+    let changed = bytes.filter(|(now, before)| now != before).count();
+    changed as u64 <= most && keeps_to_ranges(asked, claimed, guest)
 }
 
 /// Whether every changed byte lies in a range of the map of the steps.
@@ -81,6 +56,7 @@ fn keeps_to_ranges(asked: &Steps, claimed: usize, guest: &[u8]) -> bool {
 #[cfg(test)]
 mod tests {
     use super::*;
+    use crate::answer::Answer;
     use crate::examples;
     use crate::over_second;
     use crate::question::{Loader, Question, StepCall};
@@ -132,29 +108,26 @@ mod tests {
         let agrees = |change: &dyn Fn(&mut StepsTold)| {
             let mut told = wanted.clone();
             change(&mut told);
-            let line = Answer::Steps(told.clone()).line(&steps.guest);
-            let by_line = agrees(&steps, &wanted, 2, &Reply::Line(line));
-            let answer = Reply::Answer(Answer::Steps(told));
-            (by_line, agrees(&steps, &wanted, 2, &answer))
+            agrees(&steps, &wanted, 2, &told)
         };
-        assert_eq!(agrees(&|_| {}), (true, true));
+        assert!(agrees(&|_| {}));
         let copied = |index: usize, copied| {
             agrees(&move |told: &mut StepsTold| told.calls[index] = StepTold::Step(copied, None))
         };
         // another count is good within the budget, and before the change it is not
-        assert_eq!(copied(3, 9), (true, true));
-        assert_eq!(copied(3, 10), (false, false));
-        assert_eq!(copied(0, 0), (false, false));
-        assert_eq!(copied(1, 0), (false, false));
+        assert!(copied(3, 9));
+        assert!(!copied(3, 10));
+        assert!(!copied(0, 0));
+        assert!(!copied(1, 0));
         let refused = |index: usize, number| {
             agrees(&move |told: &mut StepsTold| told.calls[index] = StepTold::Refused(number))
         };
-        assert_eq!(refused(1, 64), (false, false));
-        assert_eq!(refused(3, 64), (false, false));
+        assert!(!refused(1, 64));
+        assert!(!refused(3, 64));
         // a byte that changed in a range, and one in none
-        assert_eq!(agrees(&|told| told.guest[18] = 1), (true, true));
-        assert_eq!(agrees(&|told| told.guest[18..20].fill(7)), (true, true));
-        assert!(!agrees(&|told| told.guest[20] = 1).1);
-        assert_eq!(agrees(&|told| told.guest.fill(1)), (false, false));
+        assert!(agrees(&|told| told.guest[18] = 1));
+        assert!(agrees(&|told| told.guest[18..20].fill(7)));
+        assert!(!agrees(&|told| told.guest[20] = 1));
+        assert!(!agrees(&|told| told.guest.fill(1)));
     }
 }

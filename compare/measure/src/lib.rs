@@ -3,6 +3,8 @@
 
 mod chart;
 pub mod contestants;
+#[path = "../../../rust/src/ffi.rs"]
+mod ffi;
 pub mod images;
 pub mod memory;
 mod notes;
@@ -18,6 +20,7 @@ mod works;
 
 use contestants::{Contestant, Library, Plain};
 use memory::{Memory, GUEST};
+use rekusoyen::entry;
 use works::Pages;
 
 /// Without words: checks that all contestants do the same, measures them, and prints the tables. With the words CONTESTANT WORK

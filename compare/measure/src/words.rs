@@ -1,8 +1,8 @@
 //! The words of long lines: how long the library takes beside a plain Rust reader, and that its time grows with the length alone. The
 //! published crate does not read a line back.
 
+use crate::ffi::call;
 use crate::rounds::{interleaved, ratio, spread};
-use rekusoyen::entry;
 use std::hint::black_box;
 use std::time::{Duration, Instant};
 
@@ -111,22 +111,10 @@ fn check(line: &Line) {
 }
 
 pub fn library(line: &[u8], Lists([starts, ends, splits]): &mut Lists) -> u64 {
-    let mut out = [0; entry::LINE_WORDS_OUT];
-    // SAFETY: each pointer is that of a slice, with its own length, which lives through the call; what is `mut` is lent to it alone.
-    let number = unsafe {
-        entry::rekusoyen_line_words(
-            line.as_ptr(),
-            line.len(),
-            starts.as_mut_ptr(),
-            starts.len(),
-            ends.as_mut_ptr(),
-            ends.len(),
-            splits.as_mut_ptr(),
-            splits.len(),
-            out.as_mut_ptr(),
-            out.len(),
-        )
-    };
+    let mut out = [0];
+    let number = call!(rekusoyen_raw_line_words(
+        in line, mut starts, mut ends, mut splits, mut &mut out
+    ));
     assert_eq!(number, 0, "a good line");
     out[0]
 }

@@ -43,7 +43,7 @@ impl Backend for Published {
         }
         // a panic is a difference to be shown, not the end of the run
         let answered = catch_unwind(AssertUnwindSafe(|| self.answer(question)));
-        answered.map_or(Reply::Line("(panicked)".into()), Reply::Answer)
+        answered.map_or(Reply::Failed("panicked".into()), Reply::Answer)
     }
 
     fn agrees(&self, question: &Question, wanted: &Answer, reply: &Reply) -> bool {

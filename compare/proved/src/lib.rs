@@ -1,5 +1,7 @@
-//! The proved code in this process.
+//! The proved library, linked into this process.
 
+#[path = "../../../rust/src/ffi.rs"]
+mod ffi;
 mod lines;
 mod loads;
 mod pages;
@@ -9,7 +11,8 @@ mod words;
 
 use driver::answer::Answer;
 use driver::backend::{Backend, Reply};
-use driver::question::Question;
+use driver::question::{Loader, Question};
+use rekusoyen::entry;
 
 pub struct Proved;
 
@@ -19,25 +22,22 @@ impl Backend for Proved {
     }
 
     fn ask(&mut self, question: &Question) -> Reply {
-        if let Question::Job(_) = question {
-            // the library has no job: the desk program is a program
-            return Reply::Outside;
-        }
         let map = question.numbers();
         Reply::Answer(match question {
-            Question::Elf(load) => loads::elf(load, &map),
+            Question::Elf(load) => loads::answer(Loader::Elf, load, &map),
             Question::Note(walk) => loads::note(walk),
-            Question::Bzimage(load) => loads::bzimage(load, &map),
+            Question::Bzimage(load) => loads::answer(Loader::Bzimage, load, &map),
             Question::Line(calls) => lines::calls(calls),
             Question::LineLoad(load) => lines::load(load, &map),
             Question::Words(asked) => words::read(asked),
             Question::PageBuild(build) => pages::build(build),
             Question::PageRead(read) => pages::read(read),
             Question::Steps(asked) => Answer::Steps(portions::steps(asked)),
-            Question::Arm64(load) => loads::arm64(load, &map),
+            Question::Arm64(load) => loads::answer(Loader::Arm64, load, &map),
             Question::StartWrite(write) => starts::write(write),
             Question::StartCheck(check) => starts::check(check),
-            Question::Job(_) => unreachable!("it is outside"),
+            // asked of the desk program
+            Question::Job(_) => return Reply::Outside,
         })
     }
 }

@@ -1,18 +1,16 @@
-//! Lines, in bytes that are lent to the proved code.
+//! Lines, in bytes of the caller.
 
+use crate::ffi::call;
 use crate::outcome;
 use driver::answer::{Answer, CallAnswer};
 use driver::question::{Call, LineLoad};
-use rekusoyen::entry::{self, LINE_SIZE};
+use rekusoyen::entry::LINE_SIZE;
 
-/// What an untouched byte of a lent output holds.
+/// What an untouched byte of an output holds.
 const UNTOUCHED: u8 = 0xe7;
 
 /// A line's bytes.
 type Line = Vec<u8>;
-
-// In every call below each pointer is that of a slice, with its own length, which lives through the call, and what the call may
-// change is lent to it alone: that is what makes each of them sound.
 
 pub fn calls(calls: &[Call]) -> Answer {
     Answer::Line(answer_calls(calls).0)
@@ -21,18 +19,7 @@ pub fn calls(calls: &[Call]) -> Answer {
 pub fn load(load: &LineLoad, map: &[u64]) -> Answer {
     let (calls, line) = answer_calls(&load.calls);
     let mut guest = load.guest.clone();
-    // SAFETY: see above.
-    let number = unsafe {
-        entry::rekusoyen_line_load(
-            guest.as_mut_ptr(),
-            guest.len(),
-            map.as_ptr(),
-            map.len(),
-            load.address,
-            line.as_ptr(),
-            line.len(),
-        )
-    };
+    let number = call!(rekusoyen_line_load(mut &mut guest, in map, load.address, in &line));
     let outcome = outcome(number, || ());
     Answer::LineLoad {
         calls,
@@ -43,8 +30,7 @@ pub fn load(load: &LineLoad, map: &[u64]) -> Answer {
 
 fn answer_calls(calls: &[Call]) -> (Vec<CallAnswer>, Line) {
     let mut line = vec![0; LINE_SIZE];
-    // SAFETY: see above.
-    let made = unsafe { entry::rekusoyen_line_new(line.as_mut_ptr(), line.len(), 1) };
+    let made = call!(rekusoyen_line_new(mut &mut line, 1));
     assert_eq!(made, 0, "1 is a capacity");
     let mut kept = line.clone();
     let answers = calls
@@ -55,66 +41,33 @@ fn answer_calls(calls: &[Call]) -> (Vec<CallAnswer>, Line) {
 }
 
 fn answer_call(call: &Call, line: &mut Line, kept: &mut Line) -> CallAnswer {
-    let (bytes, size) = (line.as_mut_ptr(), line.len());
-    // SAFETY: see above.
-    let number = unsafe {
-        match call {
-            Call::New { capacity } => entry::rekusoyen_line_new(bytes, size, (*capacity).into()),
-            Call::InsertStr(text) => {
-                entry::rekusoyen_line_insert_str(bytes, size, text.as_ptr(), text.len())
-            }
-            Call::InsertInitArgs(text) => {
-                entry::rekusoyen_line_insert_init_args(bytes, size, text.as_ptr(), text.len())
-            }
-            Call::Insert { key, value } => entry::rekusoyen_line_insert(
-                bytes,
-                size,
-                key.as_ptr(),
-                key.len(),
-                value.as_ptr(),
-                value.len(),
-            ),
-            Call::InsertMultiple { key, ends, values } => {
-                let ends: Vec<usize> = ends.iter().map(|end| *end as usize).collect();
-                entry::rekusoyen_line_insert_multiple(
-                    bytes,
-                    size,
-                    key.as_ptr(),
-                    key.len(),
-                    values.as_ptr(),
-                    values.len(),
-                    ends.as_ptr(),
-                    ends.len(),
-                )
-            }
-            Call::AddDevice {
-                size: device_size,
-                address,
-                irq,
-                id,
-            } => entry::rekusoyen_line_add_virtio_mmio_device(
-                bytes,
-                size,
-                *device_size,
-                *address,
-                *irq,
-                u32::from(id.is_some()),
-                id.unwrap_or(0),
-            ),
-            Call::TryFrom { capacity, text } => entry::rekusoyen_line_try_from(
-                bytes,
-                size,
-                text.as_ptr(),
-                text.len(),
-                (*capacity).into(),
-            ),
-            Call::AsCstring { room } => return written(line, *room as usize),
-            Call::Keep => {
-                kept.clone_from(line);
-                0
-            }
-            Call::IsEqual => return is_equal(line, kept),
+    let number = match call {
+        Call::New { capacity } => call!(rekusoyen_line_new(mut line, u64::from(*capacity))),
+        Call::InsertStr(text) => call!(rekusoyen_line_insert_str(mut line, in text)),
+        Call::InsertInitArgs(text) => call!(rekusoyen_line_insert_init_args(mut line, in text)),
+        Call::Insert { key, value } => call!(rekusoyen_line_insert(mut line, in key, in value)),
+        Call::InsertMultiple { key, ends, values } => {
+            let ends: Vec<usize> = ends.iter().map(|end| *end as usize).collect();
+            call!(rekusoyen_line_insert_multiple(mut line, in key, in values, in &ends))
         }
+        Call::AddDevice {
+            size,
+            address,
+            irq,
+            id,
+        } => {
+            let (has_id, id) = (u32::from(id.is_some()), id.unwrap_or(0));
+            call!(rekusoyen_line_add_virtio_mmio_device(mut line, *size, *address, *irq, has_id, id))
+        }
+        Call::TryFrom { capacity, text } => {
+            call!(rekusoyen_line_try_from(mut line, in text, u64::from(*capacity)))
+        }
+        Call::AsCstring { room } => return written(line, *room as usize),
+        Call::Keep => {
+            kept.clone_from(line);
+            0
+        }
+        Call::IsEqual => return is_equal(line, kept),
     };
     match outcome(number, || ()) {
         Ok(()) => CallAnswer::Ok,
@@ -124,18 +77,8 @@ fn answer_call(call: &Call, line: &mut Line, kept: &mut Line) -> CallAnswer {
 
 fn written(line: &Line, room: usize) -> CallAnswer {
     let mut output = vec![UNTOUCHED; room];
-    let mut count = [0u64; 1];
-    // SAFETY: see above.
-    let number = unsafe {
-        entry::rekusoyen_line_as_cstring(
-            line.as_ptr(),
-            line.len(),
-            output.as_mut_ptr(),
-            output.len(),
-            count.as_mut_ptr(),
-            count.len(),
-        )
-    };
+    let mut count = [0];
+    let number = call!(rekusoyen_raw_line_as_cstring(in line, mut &mut output, mut &mut count));
     let outcome = outcome(number, || count[0] as usize);
     let others = *outcome.as_ref().unwrap_or(&0);
     let spoilt = output[others..].iter().any(|byte| *byte != UNTOUCHED);
@@ -145,18 +88,8 @@ fn written(line: &Line, room: usize) -> CallAnswer {
 }
 
 fn is_equal(line: &Line, kept: &Line) -> CallAnswer {
-    let mut out = [0u64; 1];
-    // SAFETY: see above.
-    let number = unsafe {
-        entry::rekusoyen_line_equal(
-            line.as_ptr(),
-            line.len(),
-            kept.as_ptr(),
-            kept.len(),
-            out.as_mut_ptr(),
-            out.len(),
-        )
-    };
+    let mut out = [0];
+    let number = call!(rekusoyen_raw_line_equal(in line, in kept, mut &mut out));
     assert_eq!(number, 0, "both are lines");
     CallAnswer::Equal(out[0] == 1)
 }

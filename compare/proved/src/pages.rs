@@ -1,5 +1,6 @@
 //! Boot pages.
 
+use crate::ffi::call;
 use crate::outcome;
 use driver::answer::{Answer, PageFound};
 use driver::question::{PageBuild, PageRead};
@@ -7,42 +8,22 @@ use rekusoyen::entry;
 
 pub fn build(build: &PageBuild) -> Answer {
     let mut page = build.page.clone();
-    // SAFETY: each pointer is that of a slice, with its own length, which lives through the call; `page` is lent to it alone.
-    let number = unsafe {
-        entry::rekusoyen_page_build(
-            page.as_mut_ptr(),
-            page.len(),
-            build.header.as_ptr(),
-            build.header.len(),
-            build.command_line,
-            build.ramdisk,
-            build.ramdisk_size,
-            build.numbers.as_ptr(),
-            build.numbers.len(),
-        )
-    };
+    let (header, rows) = (&build.header[..], &build.numbers[..]);
+    let number = call!(rekusoyen_page_build(
+        mut &mut page, in header, build.command_line, build.ramdisk, build.ramdisk_size, in rows
+    ));
     let outcome = outcome(number, || ());
     Answer::PageBuild { outcome, page }
 }
 
 pub fn read(read: &PageRead) -> Answer {
     let page = read.page();
-    let mut out = [7u64; entry::PAGE_READ_OUT];
+    let mut out = [7u64; entry::PAGE_NUMBERS];
     let mut rows = [7u64; entry::PAGE_READ_ROWS];
     let mut header = [7u8; entry::SETUP_HEADER_SIZE];
-    // SAFETY: as above; the page is read only, and the three others are lent to the call alone.
-    let number = unsafe {
-        entry::rekusoyen_page_read(
-            page.as_ptr(),
-            page.len(),
-            out.as_mut_ptr(),
-            out.len(),
-            rows.as_mut_ptr(),
-            rows.len(),
-            header.as_mut_ptr(),
-            header.len(),
-        )
-    };
+    let number = call!(rekusoyen_raw_page_read(
+        in &page, mut &mut out, mut &mut rows, mut &mut header
+    ));
     let told = outcome(number, || {
         let numbers = 3 * out[0] as usize;
         assert!(rows[numbers..].iter().all(|number| *number == 7));

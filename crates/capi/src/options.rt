@@ -36,7 +36,11 @@ pub(crate) fn format_of(n: u64) -> Format
     if n == 1 {
         return Format::Elf;
     }
-    if n == 2 { Format::BzImage } else { Format::Arm64 }
+    if n == 2 {
+        Format::BzImage
+    } else {
+        Format::Arm64
+    }
 }
 
 // Is it a format's number?

@@ -174,7 +174,11 @@ pub extern "C" fn rekusoyen_line_add_virtio_mmio_device(
 
 // The text of the line and its closing zero, written to the start of `out`; how many bytes, the zero counted, into the one place of `count`.
 #[no_mangle]
-pub extern "C" fn rekusoyen_raw_line_as_cstring(line: &[u8], out: &mut [u8], count: &mut [u64]) -> u32
+pub extern "C" fn rekusoyen_raw_line_as_cstring(
+    line: &[u8],
+    out: &mut [u8],
+    count: &mut [u64],
+) -> u32
     ensures { λ r. ⌜ LineWrites (now (line .entry)) (now (out .entry)) (now (count .entry)) r (now (out .exit)) (now (count .exit)) ⌝ }
 {
     let gate = answers::require(Gate::Open, count.len() == 1, Refusal::NoRoom);

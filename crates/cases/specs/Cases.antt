@@ -14,10 +14,13 @@ use Rattle.guest.specs.declared.Given.{Given}
 use Rattle.guest.specs.declared.Given.the-variants.{Nothing, At}
 use Rattle.elf.specs.Header.{magic}
 use Rattle.elf.specs.Notes.{xen, publicNote}
-use Rattle.elf.specs.Pouring.{planOf}
-use Rattle.elf.specs.Load.{pvhCode, elfNumber, elfValues, noteNumber, noteValues}
-use Rattle.elf.specs.declared.Answer.{Answer}
-use Rattle.elf.specs.declared.PvhBootCapability.the-variants.{PvhEntryIgnored}
+use Rattle.elf.specs.Load.{noteNumber, noteValues}
+use Rattle.guest.specs.Answers.{pvhCode, answerNumber, answerValues}
+use Rattle.guest.specs.declared.Answer.{Answer}
+use Rattle.guest.specs.declared.PvhBootCapability.the-variants.{PvhEntryIgnored}
+use Rattle.loads.specs.Formats.{planOf}
+use Rattle.loads.specs.declared.Format.the-variants.{Elf}
+use Rattle.loads.specs.declared.Options.{Options}
 use Rattle.slugs.specs.Bytes.{space, quote, dash, equals}
 use Rattle.slugs.specs.Splitting.{separator}
 use Rattle.cmdline.specs.Insertion.{callNumber}
@@ -75,11 +78,14 @@ lastNumber (s ∷ (u ∷ ss)) = lastNumber (u ∷ ss)
 
 -- what a load of e1 by a plan says and leaves
 abbrev planned : Plan Answer → ℕ → Told
-planned plan size = record { number = elfNumber (plan .answer); values = elfValues (plan .answer); left = pour (plan .stream) (zeros size) ∷ [] }
+planned plan size = record { number = answerNumber (plan .answer); values = answerValues (plan .answer); left = pour (plan .stream) (zeros size) ∷ [] }
+
+abbrev elfWith : Given → Given → Options
+elfWith offset highmem = record { format = Elf; «kernel_offset» = offset; «highmem_start» = highmem }
 
 unfoldable pub told : Ask → Told
-told (loads size offset highmem) = planned (planOf e1 (wholeOf size) offset highmem) size
-told (loads-over size numbers) = planned (planOf e1 (memoryOf (zeros size) (mapOf numbers)) Nothing Nothing) size
+told (loads size offset highmem) = planned (planOf e1 (wholeOf size) (elfWith offset highmem)) size
+told (loads-over size numbers) = planned (planOf e1 (memoryOf (zeros size) (mapOf numbers)) (elfWith Nothing Nothing)) size
 told (walks size) =
     let said = publicNote note (record { 0 = 0 }) size in
     record { number = noteNumber (said .answer); values = noteValues (said .answer) (said .headers); left = [] }

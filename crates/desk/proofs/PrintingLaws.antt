@@ -1,4 +1,4 @@
--- Laws of the text that tells a job, put part by part.
+-- Laws of the text that a job prints, put part by part.
 use Prim.Native.Nat.{ℕ, min}
 use mathlib.Core.Path.{_≡_, refl, sym, ap, _∙_}
 use mathlib.Core.List.{List, [], _∷_, _++_, append-assoc}
@@ -10,40 +10,53 @@ use Rattle.answers.specs.declared.Refusal.{Refusal}
 use Rattle.cmdline.specs.Digits.{decimal}
 use Rattle.slugs.specs.Stored.{Stored}
 use Rattle.slugs.proofs.StoredLaws.{stored-as, then}
-use Rattle.desk.specs.declared.Kernel.{Kernel}
-use Rattle.desk.specs.declared.Pvh.{Pvh}
-use Rattle.desk.specs.declared.Pvh.the-variants.{Untold, Ignored, Absent, At}
-use Rattle.desk.specs.declared.Said.{Said}
-use Rattle.desk.specs.declared.Said.the-variants.{Loaded, Refused}
+use Rattle.guest.specs.declared.PvhNote.{PvhNote}
+use Rattle.guest.specs.declared.Answer.{Answer}
+use Rattle.guest.specs.declared.Answer.the-variants.{Loaded, Refused}
+use Rattle.guest.specs.declared.KernelLoaderResult.{KernelLoaderResult}
+use Rattle.guest.specs.declared.PvhBootCapability.{PvhBootCapability}
+use Rattle.guest.specs.declared.PvhBootCapability.the-variants.{PvhEntryPresent, PvhEntryNotPresent, PvhEntryIgnored}
+use Rattle.loads.specs.declared.Format.{Format}
+use Rattle.loads.specs.declared.Format.the-variants.{Elf, BzImage, Arm64}
 use Rattle.desk.specs.declared.Text.{Text}
-use Rattle.desk.specs.Printing.{loadWord, endWord, pvhWord, refusedWord, ignored, none, numberLine, pvhLine, saidText, heldText}
+use Rattle.desk.specs.Printing.{loadWord, endWord, pvhWord, refusedWord, ignored, none, numberLine, pvhText, pvhLine, answerText, heldText}
 
 module _ {d left : List ℕ} {at r : ℕ} where
-  pub pvh-untold : {pvh : Pvh} → pvh ≡ Untold → Stored d at [] left r → Stored d at (pvhLine pvh) left r
-  unfolding pvhLine
-  pvh-untold e w = rw e w
-
-  pub pvh-ignored : {pvh : Pvh} → pvh ≡ Ignored → Stored d at (pvhWord ++ ignored) left r → Stored d at (pvhLine pvh) left r
-  unfolding pvhLine
+  pub pvh-ignored : {pvh : PvhBootCapability} → pvh ≡ PvhEntryIgnored → Stored d at (pvhWord ++ ignored) left r → Stored d at (pvhText pvh) left r
+  unfolding pvhText
   pvh-ignored e w = rw e w
 
-  pub pvh-none : {pvh : Pvh} → pvh ≡ Absent → Stored d at (pvhWord ++ none) left r → Stored d at (pvhLine pvh) left r
-  unfolding pvhLine
+  pub pvh-none : {pvh : PvhBootCapability} → pvh ≡ PvhEntryNotPresent → Stored d at (pvhWord ++ none) left r → Stored d at (pvhText pvh) left r
+  unfolding pvhText
   pvh-none e w = rw e w
 
-  pub pvh-at : {pvh : Pvh} {entry : ℕ} → pvh ≡ At entry → Stored d at (numberLine pvhWord entry) left r → Stored d at (pvhLine pvh) left r
+  pub pvh-at : {pvh : PvhBootCapability} (note : PvhNote) → pvh ≡ PvhEntryPresent note → Stored d at (numberLine pvhWord (note .entry .0)) left r
+      → Stored d at (pvhText pvh) left r
+  unfolding pvhText
+  pvh-at note e w = rw e w
+
+  pub pvh-elf : {f : Format} (pvh : PvhBootCapability) → f ≡ Elf → Stored d at (pvhText pvh) left r → Stored d at (pvhLine f pvh) left r
   unfolding pvhLine
-  pvh-at e w = rw e w
+  pvh-elf pvh e w = rw e w
 
-  pub refusal-told : {said : Said} {refusal : Refusal} {n : ℕ} → said ≡ Refused refusal → n ≡ numberOf refusal → Stored d at (numberLine refusedWord n) left r
-      → Stored d at (saidText said) left r
-  unfolding saidText
-  refusal-told e en w = rw e (stored-as (ap (numberLine refusedWord) en) w)
+  pub pvh-bzimage : {f : Format} (pvh : PvhBootCapability) → f ≡ BzImage → Stored d at [] left r → Stored d at (pvhLine f pvh) left r
+  unfolding pvhLine
+  pvh-bzimage pvh e w = rw e w
 
-pub kernel-told : {d x y left : List ℕ} {at p q r : ℕ} {said : Said} (kernel : Kernel) → said ≡ Loaded kernel → Stored d at (numberLine loadWord (kernel .load)) x p
-    → Stored x p (numberLine endWord (kernel .end)) y q → Stored y q (pvhLine (kernel .pvh)) left r → Stored d at (saidText said) left r
-unfolding saidText
-kernel-told kernel e a b c = rw e (then a (then b c))
+  pub pvh-arm64 : {f : Format} (pvh : PvhBootCapability) → f ≡ Arm64 → Stored d at [] left r → Stored d at (pvhLine f pvh) left r
+  unfolding pvhLine
+  pvh-arm64 pvh e w = rw e w
+
+  pub refusal-stored : (f : Format) {answer : Answer} {refusal : Refusal} {n : ℕ} → answer ≡ Refused refusal → n ≡ numberOf refusal
+      → Stored d at (numberLine refusedWord n) left r → Stored d at (answerText f answer) left r
+  unfolding answerText
+  refusal-stored f e en w = rw e (stored-as (ap (numberLine refusedWord) en) w)
+
+pub kernel-stored : {d x y left : List ℕ} {at p q r : ℕ} (f : Format) {answer : Answer} (kernel : KernelLoaderResult) → answer ≡ Loaded kernel
+    → Stored d at (numberLine loadWord (kernel .«kernel_load» .0)) x p → Stored x p (numberLine endWord (kernel .«kernel_end» .0)) y q
+    → Stored y q (pvhLine f (kernel .«pvh_boot_cap»)) left r → Stored d at (answerText f answer) left r
+unfolding answerText
+kernel-stored f kernel e a b c = rw e (then a (then b c))
 
 -- a word, a number and a line feed
 pub line-told : {d x y left : List ℕ} {at p q r : ℕ} (word : List ℕ) (n : ℕ) → Stored d at word x p → Stored x p (decimal n) y q → Stored y q (10 ∷ []) left r
@@ -51,10 +64,10 @@ pub line-told : {d x y left : List ℕ} {at p q r : ℕ} (word : List ℕ) (n : 
 line-told word n a b c = then a (then b c)
 
 -- what 80 zeros hold after a text was stored in them
-pub text-held : (said : Said) {bytes : List ℕ} {n : ℕ} → Stored (replicate 80 0) 0 (saidText said) bytes n
-    → _≡_ {A = Text} (record { bytes = bytes; length = n }) (heldText (saidText said))
-text-held said {bytes} {n} w =
+pub text-held : (f : Format) (answer : Answer) {bytes : List ℕ} {n : ℕ} → Stored (replicate 80 0) 0 (answerText f answer) bytes n
+    → _≡_ {A = Text} (record { bytes = bytes; length = n }) (heldText (answerText f answer))
+text-held f answer {bytes} {n} w =
     let long = length-replicate {A = ℕ} 80 0 in
     let place = w .place in
-    let e : n ≡ min (length (saidText said)) 80 = omega arith in
+    let e : n ≡ min (length (answerText f answer)) 80 = omega arith in
     rw (w .bytes, e)

@@ -12,15 +12,15 @@ use Rattle.answers.specs.Tests.{AllHold, FirstFails, here, later}
 use Rattle.answers.specs.declared.Refusal.{Refusal}
 use Rattle.answers.specs.declared.Refusal.the-variants.{BadJob}
 use Rattle.answers.proofs.BoolLaws.{both-held, one-held}
+use Rattle.guest.specs.declared.Answer.{Answer}
+use Rattle.guest.specs.declared.Answer.the-variants.{Refused}
 use Rattle.guest.specs.Loading.{Plan}
 use Rattle.guest.specs.Room.{wholeOf}
 use Rattle.guest.proofs.LoadingLaws.{first-planned, all-planned}
 use Rattle.desk.specs.declared.table.Row.{Row}
-use Rattle.desk.specs.declared.Said.{Said}
-use Rattle.desk.specs.declared.Said.the-variants.{Refused}
-use Rattle.desk.specs.Table.{countOf, countGood, rowOf, firstRow, secondRow, onePlaced, twoPlaced, placesGood, jobTests}
-use Rattle.desk.specs.Work.{bodiesPlan, jobPlan}
-use Rattle.desk.specs.Printing.{refusedWord, numberLine, saidText, printed}
+use Rattle.desk.specs.Table.{countOf, countGood, imageRow, rowOf, firstRow, secondRow, onePlaced, twoPlaced, placesGood, jobTests}
+use Rattle.desk.specs.Work.{imageFormat, bodiesPlan, jobPlan}
+use Rattle.desk.specs.Printing.{refusedWord, numberLine, answerText, printed}
 use Rattle.desk.proofs.TableLaws.{places-one, places-two}
 
 -- whichever rule is broken, the refusal is the same
@@ -32,15 +32,15 @@ only-bad-job job (later t (later t' (later t'' (here f e)))) = sym e
 
 -- a job that breaks a rule prints `refused 70`, whatever its image and its line are
 pub bad-prints : (job : List ℕ) (size : ℕ) {refusal : Refusal} → FirstFails refusal (jobTests job) → printed job size ≡ numberLine refusedWord 70
-unfolding jobPlan saidText
+unfolding jobPlan answerText
 bad-prints job size f =
-    ap (λ (p : Plan Said). saidText (p .answer)) (first-planned Refused (jobTests job) (bodiesPlan job (wholeOf size)) f)
-    ∙ ap (λ (r : Refusal). saidText (Refused r)) (only-bad-job job f)
+    ap (λ (p : Plan Answer). answerText (imageFormat (imageRow job .kind)) (p .answer)) (first-planned Refused (jobTests job) (bodiesPlan job (wholeOf size)) f)
+    ∙ ap (λ (r : Refusal). answerText (imageFormat (imageRow job .kind)) (Refused r)) (only-bad-job job f)
 
 -- a job that breaks none prints what its bodies give
-pub good-prints : (job : List ℕ) (size : ℕ) → AllHold (jobTests job) → printed job size ≡ saidText (bodiesPlan job (wholeOf size) .answer)
+pub good-prints : (job : List ℕ) (size : ℕ) → AllHold (jobTests job) → printed job size ≡ answerText (imageFormat (imageRow job .kind)) (bodiesPlan job (wholeOf size) .answer)
 unfolding jobPlan
-good-prints job size h = ap (λ (p : Plan Said). saidText (p .answer)) (all-planned Refused (jobTests job) (bodiesPlan job (wholeOf size)) h)
+good-prints job size h = ap (λ (p : Plan Answer). answerText (imageFormat (imageRow job .kind)) (p .answer)) (all-planned Refused (jobTests job) (bodiesPlan job (wholeOf size)) h)
 
 -- ---- the table of a good job lies in it
 

@@ -1,4 +1,4 @@
--- The 80 bytes that are handed back hold the whole text: what is printed of them is exactly what the job says.
+-- The 80 bytes that are returned hold the whole text: what is printed of them is exactly what the job says.
 use Prim.Native.Nat.{ℕ, zero, suc, _+_, _%_, _/_, _≤_, min}
 use mathlib.Core.Path.{_≡_, ap, _∙_}
 use mathlib.Core.List.{List, [], _∷_, _++_}
@@ -10,11 +10,13 @@ use Rattle.answers.specs.Catalogue.{numberOf}
 use Rattle.answers.specs.Pick.{pick}
 use Rattle.answers.proofs.PickLaws.{pick-with}
 use Rattle.cmdline.specs.Digits.{digit, digitsBefore, decimal}
-use Rattle.desk.specs.declared.Pvh.{Pvh}
-use Rattle.desk.specs.declared.Pvh.the-variants.{Untold, Ignored, Absent, At}
-use Rattle.desk.specs.declared.Said.{Said}
-use Rattle.desk.specs.declared.Said.the-variants.{Loaded, Refused}
-use Rattle.desk.specs.Printing.{loadWord, endWord, pvhWord, refusedWord, numberLine, pvhLine, saidText, heldText}
+use Rattle.guest.specs.declared.Answer.{Answer}
+use Rattle.guest.specs.declared.Answer.the-variants.{Loaded, Refused}
+use Rattle.guest.specs.declared.PvhBootCapability.{PvhBootCapability}
+use Rattle.guest.specs.declared.PvhBootCapability.the-variants.{PvhEntryPresent, PvhEntryNotPresent, PvhEntryIgnored}
+use Rattle.loads.specs.declared.Format.{Format}
+use Rattle.loads.specs.declared.Format.the-variants.{Elf, BzImage, Arm64}
+use Rattle.desk.specs.Printing.{loadWord, endWord, pvhWord, refusedWord, numberLine, pvhText, pvhLine, answerText, heldText}
 
 -- no number has more digits than are looked for
 few-digits : (most base n : ℕ) (later : List ℕ) → length (digitsBefore most base n later) ≤ most + length later
@@ -31,28 +33,35 @@ line-few word n =
     let outer = length-append word (decimal n ++ (10 ∷ [])) in
     omega arith
 
-pvh-few : (pvh : Pvh) → length (pvhLine pvh) ≤ 25
-unfolding pvhLine
-pvh-few Untold = omega arith
-pvh-few Ignored = omega arith
-pvh-few Absent = omega arith
-pvh-few (At entry) = line-few pvhWord entry
+pvh-few : (pvh : PvhBootCapability) → length (pvhText pvh) ≤ 25
+unfolding pvhText
+pvh-few PvhEntryIgnored = omega arith
+pvh-few PvhEntryNotPresent = omega arith
+pvh-few (PvhEntryPresent note) = line-few pvhWord (note .entry .0)
 
-text-few : (said : Said) → length (saidText said) ≤ 80
-unfolding saidText
-text-few (Refused refusal) = let few = line-few refusedWord (numberOf refusal) in omega arith
-text-few (Loaded kernel) =
-    let first = line-few loadWord (kernel .load) in
-    let second = line-few endWord (kernel .end) in
-    let third = pvh-few (kernel .pvh) in
-    let inner = length-append (numberLine endWord (kernel .end)) (pvhLine (kernel .pvh)) in
-    let outer = length-append (numberLine loadWord (kernel .load)) (numberLine endWord (kernel .end) ++ pvhLine (kernel .pvh)) in
+pvh-line-few : (f : Format) (pvh : PvhBootCapability) → length (pvhLine f pvh) ≤ 25
+unfolding pvhLine
+pvh-line-few Elf pvh = pvh-few pvh
+pvh-line-few BzImage pvh = omega arith
+pvh-line-few Arm64 pvh = omega arith
+
+text-few : (f : Format) (answer : Answer) → length (answerText f answer) ≤ 80
+unfolding answerText
+text-few f (Refused refusal) = let few = line-few refusedWord (numberOf refusal) in omega arith
+text-few f (Loaded kernel) =
+    let load = kernel .«kernel_load» .0 in
+    let end = kernel .«kernel_end» .0 in
+    let first = line-few loadWord load in
+    let second = line-few endWord end in
+    let third = pvh-line-few f (kernel .«pvh_boot_cap») in
+    let inner = length-append (numberLine endWord end) (pvhLine f (kernel .«pvh_boot_cap»)) in
+    let outer = length-append (numberLine loadWord load) (numberLine endWord end ++ pvhLine f (kernel .«pvh_boot_cap»)) in
     omega arith
 
-pub whole-text : (said : Said) → take (heldText (saidText said) .length) (heldText (saidText said) .bytes) ≡ saidText said
-whole-text said =
-    let text = saidText said in
-    let few = text-few said in
+pub whole-text : (f : Format) (answer : Answer) → take (heldText (answerText f answer) .length) (heldText (answerText f answer) .bytes) ≡ answerText f answer
+whole-text f answer =
+    let text = answerText f answer in
+    let few = text-few f answer in
     let long = length-replicate {A = ℕ} 80 0 in
     let count : min (length text) 80 ≡ length text = omega arith in
     ap (λ (n : ℕ). take n (sets (replicate 80 0) 0 text)) count

@@ -4,13 +4,15 @@ use mathlib.Core.Path.{_≡_, refl, sym, ap, _∙_, subst, subst⁻¹}
 use mathlib.Core.Bool.{true, false}
 use mathlib.Core.List.{List, []}
 use lib.ListN.{length, replicate, length-replicate}
-use borrow.Author.Tests.{eq-eqb, ne-eqb}
 use Rattle.answers.specs.Pick.{pick}
 use Rattle.answers.specs.Tests.{askedAll, isOpen}
 use Rattle.answers.specs.declared.Refusal.{Refusal}
 use Rattle.answers.specs.declared.Gate.{Gate}
 use Rattle.answers.specs.declared.Gate.the-variants.{Open, Shut}
+use Rattle.guest.specs.declared.Answer.{Answer}
+use Rattle.guest.specs.declared.Answer.the-variants.{Loaded, Refused}
 use Rattle.guest.specs.declared.Given.the-variants.{Nothing}
+use Rattle.guest.specs.declared.KernelLoaderResult.{KernelLoaderResult}
 use Rattle.guest.specs.declared.Map.{Map}
 use Rattle.guest.specs.declared.Memory.{Memory}
 use Rattle.guest.specs.Loading.{Plan, Loads, refusedPlan}
@@ -19,13 +21,6 @@ use Rattle.guest.specs.Room.{memoryOf, wholeOf}
 use Rattle.guest.specs.Stream.{pour}
 use Rattle.guest.proofs.LoadingLaws.{tests-open, tests-shut, load-length}
 use Rattle.guest.proofs.StreamLaws.{pour-append}
-use Rattle.elf.specs.declared.KernelLoaderResult.{KernelLoaderResult}
-use Rattle.elf.specs.declared.Answer as elf-answer
-use Rattle.elf.specs.declared.Answer.the-variants as elf-says
-use Rattle.elf.specs.Pouring as elf
-use Rattle.bzimage.specs.declared.Outcome.{Outcome}
-use Rattle.bzimage.specs.declared.Answer as bzimage-answer
-use Rattle.bzimage.specs.Plan as bzimage
 use Rattle.cmdline.specs.declared.Answer.the-variants as cmdline-says
 use Rattle.cmdline.specs.declared.Reply.{Reply}
 use Rattle.cmdline.specs.Held.{textOf, madeOf}
@@ -39,37 +34,20 @@ use Rattle.cmdline.proofs.Refusals.{answered-open, answered-shut}
 use Rattle.loader.specs.Lines as loader
 use Rattle.loader.specs.declared.Answer as line-answer
 use Rattle.loader.specs.declared.Answer.the-variants as line-says
-use Rattle.desk.specs.declared.Pvh.{Pvh}
-use Rattle.desk.specs.declared.Kernel.{Kernel}
-use Rattle.desk.specs.declared.Said.{Said}
-use Rattle.desk.specs.declared.Said.the-variants.{Loaded, Refused}
+use Rattle.loads.specs.Formats.{planOf, LoadSays}
+use Rattle.loads.specs.declared.Options.{Options}
 use Rattle.desk.specs.declared.table.Row.{Row}
 use Rattle.desk.specs.Table.{jobTests, hasLine, imageRow, lineRow, bodyOf}
-use Rattle.desk.specs.Work.{pvhOf, saidElf, saidBzImage, elfPlan, bzImagePlan, imagePlan, lineCapacity, linePlan, withLine, addPlan, jobImagePlan, bodiesPlan, jobPlan, memoryAfter, Works}
+use Rattle.desk.specs.Work.{imageFormat, imagePlan, lineCapacity, linePlan, withLine, addPlan, jobImagePlan, bodiesPlan, jobPlan, memoryAfter, Works}
 
 -- ---- the image
 
-pub elf-loaded : (answer : elf-answer.Answer) (k : KernelLoaderResult) {p : Pvh} → answer ≡ elf-says.Loaded k → p ≡ pvhOf (k .«pvh_boot_cap»)
-    → Loaded (record { load = k .«kernel_load» .0; end = k .«kernel_end» .0; pvh = p }) ≡ saidElf answer
-unfolding saidElf
-elf-loaded answer k e ep = rw (e, ep)
-
-module _ (kind : ℕ) (image guest : List ℕ) where
-  pub elf-image : {map : Map} {answer : elf-answer.Answer} {said : Said} {after : List ℕ} → kind ≡ 1 → map ≡ wholeMap (length guest)
-      → Loads (elf.planOf image (memoryOf guest map) Nothing Nothing) guest answer after → said ≡ saidElf answer
-      → Loads (imagePlan kind image (wholeOf (length guest))) guest said after
-  unfolding imagePlan pick
-  elf-image {map} {answer} {said} {after} e em w es =
-      let w' = subst (λ (m : Map). Loads (elf.planOf image (memoryOf guest m) Nothing Nothing) guest answer after) em w in
-      rw (eq-eqb kind 1 e) (record { answer = es ∙ ap saidElf (w' .answer); memory = w' .memory })
-
-  pub bzimage-image : {map : Map} {outcome : Outcome} {said : Said} {after : List ℕ} → (kind ≡ 1 → ⊥) → map ≡ wholeMap (length guest)
-      → Loads (bzimage.planOf image (memoryOf guest map) Nothing Nothing) guest outcome after → said ≡ saidBzImage (outcome .answer)
-      → Loads (imagePlan kind image (wholeOf (length guest))) guest said after
-  unfolding imagePlan pick
-  bzimage-image {map} {outcome} {said} {after} z em w es =
-      let w' = subst (λ (m : Map). Loads (bzimage.planOf image (memoryOf guest m) Nothing Nothing) guest outcome after) em w in
-      rw (ne-eqb kind 1 z) (record { answer = es ∙ ap (λ (o : Outcome). saidBzImage (o .answer)) (w' .answer); memory = w' .memory })
+pub image-loaded : (kind : ℕ) (image guest : List ℕ) {map : Map} {o : Options} {answer : Answer} {after : List ℕ} → map ≡ wholeMap (length guest)
+    → o ≡ record { format = imageFormat kind; «kernel_offset» = Nothing; «highmem_start» = Nothing } → LoadSays image o map guest answer after
+    → Loads (imagePlan kind image (wholeOf (length guest))) guest answer after
+image-loaded kind image guest {map} {o} {answer} {after} em eo w =
+    subst (λ (x : Options). Loads (planOf image (wholeOf (length guest)) x) guest answer after) eo
+    (subst (λ (x : Map). Loads (planOf image (memoryOf guest x) o) guest answer after) em w)
 
 -- ---- the line
 
@@ -102,46 +80,46 @@ module _ (text guest : List ℕ) (at : ℕ) {reply : Reply} (made : reply ≡ ma
       (subst (λ (t : Text). Loads (loader.planOf t (wholeOf (length guest)) at) guest answer after) (accepted-texts opens) over)
 
 module _ (text guest : List ℕ) where
-  pub add-after-refusal : {said : Said} {refusal : Refusal} → said ≡ Refused refusal
+  pub add-after-refusal : {said : Answer} {refusal : Refusal} → said ≡ Refused refusal
       → Loads (addPlan said text (wholeOf (length guest))) guest (Refused refusal) guest
   unfolding addPlan pour
   add-after-refusal e = rw e (record { answer = refl; memory = refl })
 
-  pub add-line : {said r : Said} {answer : line-answer.Answer} {after : List ℕ} (kernel : Kernel) → said ≡ Loaded kernel
-      → Loads (linePlan text (wholeOf (length guest)) (kernel .end)) guest answer after → r ≡ withLine kernel answer
+  pub add-line : {said r : Answer} {answer : line-answer.Answer} {after : List ℕ} (kernel : KernelLoaderResult) → said ≡ Loaded kernel
+      → Loads (linePlan text (wholeOf (length guest)) (kernel .«kernel_end» .0)) guest answer after → r ≡ withLine kernel answer
       → Loads (addPlan said text (wholeOf (length guest))) guest r after
   unfolding addPlan
   add-line kernel e w er = rw e (record { answer = er ∙ ap (withLine kernel) (w .answer); memory = w .memory })
 
-pub line-stands : (kernel : Kernel) {answer : line-answer.Answer} → answer ≡ line-says.Loaded → Loaded kernel ≡ withLine kernel answer
+pub line-stands : (kernel : KernelLoaderResult) {answer : line-answer.Answer} → answer ≡ line-says.Loaded → Loaded kernel ≡ withLine kernel answer
 unfolding withLine
 line-stands kernel e = rw e
 
-pub line-fails : (kernel : Kernel) {answer : line-answer.Answer} {refusal : Refusal} → answer ≡ line-says.Refused refusal → Refused refusal ≡ withLine kernel answer
+pub line-fails : (kernel : KernelLoaderResult) {answer : line-answer.Answer} {refusal : Refusal} → answer ≡ line-says.Refused refusal → Refused refusal ≡ withLine kernel answer
 unfolding withLine
 line-fails kernel e = rw e
 
 -- ---- the job
 
 -- the bodies, as the rows say them
-pub image-of : (job guest : List ℕ) (m : Memory) {row : Row} {body : List ℕ} {said : Said} {after : List ℕ} → row ≡ imageRow job → body ≡ bodyOf job row
+pub image-of : (job guest : List ℕ) (m : Memory) {row : Row} {body : List ℕ} {said : Answer} {after : List ℕ} → row ≡ imageRow job → body ≡ bodyOf job row
     → Loads (imagePlan (row .kind) body m) guest said after → Loads (jobImagePlan job m) guest said after
 image-of job guest m {row} {body} {said} {after} er eb w =
     subst (λ (r : Row). Loads (imagePlan (r .kind) (bodyOf job r) m) guest said after) er
     (subst (λ (b : List ℕ). Loads (imagePlan (row .kind) b m) guest said after) eb w)
 
-pub line-of : (job guest : List ℕ) (m : Memory) (said : Said) {row : Row} {body : List ℕ} {r : Said} {after : List ℕ} → row ≡ lineRow job → body ≡ bodyOf job row
+pub line-of : (job guest : List ℕ) (m : Memory) (said : Answer) {row : Row} {body : List ℕ} {r : Answer} {after : List ℕ} → row ≡ lineRow job → body ≡ bodyOf job row
     → Loads (addPlan said body m) guest r after → Loads (addPlan said (bodyOf job (lineRow job)) m) guest r after
 line-of job guest m said {row} {body} {r} {after} er eb w =
     subst (λ (x : Row). Loads (addPlan said (bodyOf job x) m) guest r after) er (subst (λ (b : List ℕ). Loads (addPlan said b m) guest r after) eb w)
 
 module _ (job before : List ℕ) where
-  pub image-alone : {said : Said} {after : List ℕ} → hasLine job ≡ false → Loads (jobImagePlan job (wholeOf (length before))) before said after
+  pub image-alone : {said : Answer} {after : List ℕ} → hasLine job ≡ false → Loads (jobImagePlan job (wholeOf (length before))) before said after
       → Loads (bodiesPlan job (wholeOf (length before))) before said after
   unfolding bodiesPlan pick
   image-alone e w = rw e w
 
-  pub image-and-line : {said r : Said} {middle after : List ℕ} → hasLine job ≡ true → Loads (jobImagePlan job (wholeOf (length before))) before said middle
+  pub image-and-line : {said r : Answer} {middle after : List ℕ} → hasLine job ≡ true → Loads (jobImagePlan job (wholeOf (length before))) before said middle
       → Loads (addPlan said (bodyOf job (lineRow job)) (wholeOf (length middle))) middle r after
       → Loads (bodiesPlan job (wholeOf (length before))) before r after
   unfolding bodiesPlan pick
@@ -150,7 +128,7 @@ module _ (job before : List ℕ) where
       let text = bodyOf job (lineRow job) in
       let longs = load-length (jobImagePlan job m) before middle w in
       let v' = subst (λ (n : ℕ). Loads (addPlan said text (wholeOf n)) middle r after) longs v in
-      let v'' = subst (λ (s : Said). Loads (addPlan s text m) middle r after) (w .answer) v' in
+      let v'' = subst (λ (s : Answer). Loads (addPlan s text m) middle r after) (w .answer) v' in
       let image = jobImagePlan job m in
       let line = addPlan (image .answer) text m in
       rw e
@@ -164,11 +142,11 @@ module _ (job before : List ℕ) where
   job-refused asked is =
       let shut = sym asked ∙ is in
       record {
-        said = sym (ap (λ (p : Plan Said). p .answer) (tests-shut Refused (jobTests job) (bodiesPlan job (wholeOf (length before))) shut));
+        said = sym (ap (λ (p : Plan Answer). p .answer) (tests-shut Refused (jobTests job) (bodiesPlan job (wholeOf (length before))) shut));
         memory = rw shut;
       }
 
-  pub job-done : {gate : Gate} {said : Said} {cleared after : List ℕ} → gate ≡ askedAll Open (jobTests job) → gate ≡ Open → cleared ≡ replicate (length before) 0
+  pub job-done : {gate : Gate} {said : Answer} {cleared after : List ℕ} → gate ≡ askedAll Open (jobTests job) → gate ≡ Open → cleared ≡ replicate (length before) 0
       → Loads (bodiesPlan job (wholeOf (length cleared))) cleared said after → Works job before said after
   unfolding jobPlan isOpen pick
   job-done {gate} {said} {cleared} {after} asked is ec w =
@@ -178,6 +156,6 @@ module _ (job before : List ℕ) where
       let w' = subst (λ (n : ℕ). Loads (bodiesPlan job (wholeOf n)) cleared said after) longs w in
       let plan = tests-open Refused (jobTests job) (bodiesPlan job m) opens in
       record {
-        said = w' .answer ∙ sym (ap (λ (p : Plan Said). p .answer) plan);
-        memory = rw opens (w' .memory ∙ ap (pour (bodiesPlan job m .stream)) ec ∙ sym (ap (λ (p : Plan Said). pour (p .stream) (replicate (length before) 0)) plan));
+        said = w' .answer ∙ sym (ap (λ (p : Plan Answer). p .answer) plan);
+        memory = rw opens (w' .memory ∙ ap (pour (bodiesPlan job m .stream)) ec ∙ sym (ap (λ (p : Plan Answer). pour (p .stream) (replicate (length before) 0)) plan));
       }

@@ -7,12 +7,15 @@ use lib.Seq.{sets}
 use Rattle.answers.specs.Catalogue.{numberOf}
 use Rattle.cmdline.specs.Digits.{decimal}
 use Rattle.guest.specs.Room.{wholeOf}
-use Rattle.desk.specs.declared.Pvh.{Pvh}
-use Rattle.desk.specs.declared.Pvh.the-variants.{Untold, Ignored, Absent, At}
-use Rattle.desk.specs.declared.Said.{Said}
-use Rattle.desk.specs.declared.Said.the-variants.{Loaded, Refused}
+use Rattle.guest.specs.declared.Answer.{Answer}
+use Rattle.guest.specs.declared.Answer.the-variants.{Loaded, Refused}
+use Rattle.guest.specs.declared.PvhBootCapability.{PvhBootCapability}
+use Rattle.guest.specs.declared.PvhBootCapability.the-variants.{PvhEntryPresent, PvhEntryNotPresent, PvhEntryIgnored}
+use Rattle.loads.specs.declared.Format.{Format}
+use Rattle.loads.specs.declared.Format.the-variants.{Elf, BzImage, Arm64}
 use Rattle.desk.specs.declared.Text.{Text}
-use Rattle.desk.specs.Work.{jobPlan, memoryAfter}
+use Rattle.desk.specs.Table.{imageRow}
+use Rattle.desk.specs.Work.{imageFormat, jobPlan, memoryAfter}
 
 -- ---- words, each with the space behind it
 
@@ -46,19 +49,26 @@ none = 110 ∷ 111 ∷ 110 ∷ 101 ∷ 10 ∷ []
 abbrev pub numberLine : List ℕ → ℕ → List ℕ
 numberLine word n = word ++ (decimal n ++ (10 ∷ []))
 
-unfoldable pub pvhLine : Pvh → List ℕ
-pvhLine Untold = []
-pvhLine Ignored = pvhWord ++ ignored
-pvhLine Absent = pvhWord ++ none
-pvhLine (At entry) = numberLine pvhWord entry
+unfoldable pub pvhText : PvhBootCapability → List ℕ
+pvhText PvhEntryIgnored = pvhWord ++ ignored
+pvhText PvhEntryNotPresent = pvhWord ++ none
+pvhText (PvhEntryPresent note) = numberLine pvhWord (note .entry .0)
 
-unfoldable pub saidText : Said → List ℕ
-saidText (Loaded kernel) = numberLine loadWord (kernel .load) ++ (numberLine endWord (kernel .end) ++ pvhLine (kernel .pvh))
-saidText (Refused refusal) = numberLine refusedWord (numberOf refusal)
+-- only of an ELF image
+unfoldable pub pvhLine : Format → PvhBootCapability → List ℕ
+pvhLine Elf pvh = pvhText pvh
+pvhLine BzImage pvh = []
+pvhLine Arm64 pvh = []
+
+unfoldable pub answerText : Format → Answer → List ℕ
+answerText format (Loaded kernel) =
+    numberLine loadWord (kernel .«kernel_load» .0)
+    ++ (numberLine endWord (kernel .«kernel_end» .0) ++ pvhLine format (kernel .«pvh_boot_cap»))
+answerText format (Refused refusal) = numberLine refusedWord (numberOf refusal)
 
 -- what a job prints that is done over so many bytes of guest memory
 abbrev pub printed : List ℕ → ℕ → List ℕ
-printed job size = saidText (jobPlan job (wholeOf size) .answer)
+printed job size = answerText (imageFormat (imageRow job .kind)) (jobPlan job (wholeOf size) .answer)
 
 -- ---- what is handed back
 

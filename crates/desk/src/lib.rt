@@ -1,36 +1,22 @@
-// A job of the desk program: an image, with or without a line, behind a table of contents. The image is loaded into guest memory that holds zeros,
+// A job of the desk program: an image, with or without a line, after a table of contents. The image is loaded into guest memory that holds zeros,
 // the line is put at the kernel's end, and a text says what came of it.
+ghost use mathlib.Core.Path.{_≡_};
+ghost use lib.ListN.{length};
+ghost use Rattle.guest.specs.Loading.{Loads};
+ghost use Rattle.guest.specs.Room.{wholeOf};
 ghost use Rattle.desk.specs.Printing.{Prints};
-ghost use Rattle.desk.specs.Work.{BodiesLoad, Works};
+ghost use Rattle.desk.specs.Work.{imageFormat, imagePlan, BodiesLoad, Works};
 use answers::Gate;
-use answers::Refusal;
 use fields::copying;
+use guest::Answer;
+use guest::Given;
+use guest::maps;
+use loads::Format;
+use loads::Options;
 
-mod images;
 mod lines;
 mod table;
 mod telling;
-
-// What is told of the PVH entry: nothing of a bzImage; else that it is ignored, that there is none, or its address.
-pub enum Pvh {
-    Untold,
-    Ignored,
-    Absent,
-    At(u64),
-}
-
-// A kernel in guest memory: its load address, its end, and its PVH entry.
-pub struct Kernel {
-    pub load: u64,
-    pub end: u64,
-    pub pvh: Pvh,
-}
-
-// What came of a job.
-pub enum Said {
-    Loaded(Kernel),
-    Refused(Refusal),
-}
 
 // The text that a job prints, at the front of its bytes; the rest of them are 0.
 pub struct Text {
@@ -38,25 +24,49 @@ pub struct Text {
     pub length: usize,
 }
 
-// The bodies of a job that is good: the image, and then the line where there is one.
-fn load_bodies(guest: &mut [u8], job: &[u8]) -> Said
+// The format of an image of kind 1, ELF, or of another kind, bzImage.
+fn format_of(kind: u64) -> Format
+    ensures { λ r. ⌜ r ≡ imageFormat kind ⌝ }
+{
+    if kind == 1 {
+        Format::Elf
+    } else {
+        Format::BzImage
+    }
+}
+
+// Loads an image without an offset and without a start of high memory.
+fn load_image(guest: &mut [u8], kind: u64, image: &[u8]) -> Answer
+    ensures { λ r. ⌜ Loads (imagePlan kind (now (image .entry)) (wholeOf (length (now (guest .entry))))) (now (guest .entry)) r (now (guest .exit)) ⌝ }
+{
+    let map = maps::whole(guest.len() as u64);
+    let options = Options {
+        format: format_of(kind),
+        kernel_offset: Given::Nothing,
+        highmem_start: Given::Nothing,
+    };
+    loads::load(guest, map, image, options)
+}
+
+// The bodies of a job that is good: the image, and then the line if there is one.
+fn load_bodies(guest: &mut [u8], job: &[u8]) -> Answer
     ensures { λ r. ⌜ BodiesLoad (now (job .entry)) (now (guest .entry)) r (now (guest .exit)) ⌝ }
 {
     let image = table::image(job);
-    let said = images::load(guest, image.kind, table::body(job, image));
+    let answer = load_image(guest, image.kind, table::body(job, image));
     if !table::has_line(job) {
-        return said;
+        return answer;
     }
-    lines::add(guest, said, table::body(job, table::line(job)))
+    lines::add(guest, answer, table::body(job, table::line(job)))
 }
 
 // Does a job. Guest memory is all of the lent bytes, and is cleared first; a job that is not good leaves it as it was.
-pub fn work(guest: &mut [u8], job: &[u8]) -> Said
+pub fn work(guest: &mut [u8], job: &[u8]) -> Answer
     ensures { λ r. ⌜ Works (now (job .entry)) (now (guest .entry)) r (now (guest .exit)) ⌝ }
 {
     let gate = table::ask(job);
     match gate {
-        Gate::Shut(refusal) => Said::Refused(refusal),
+        Gate::Shut(refusal) => Answer::Refused(refusal),
         Gate::Open => {
             copying::clear(guest);
             load_bodies(guest, job)
@@ -68,6 +78,7 @@ pub fn work(guest: &mut [u8], job: &[u8]) -> Said
 pub fn run(guest: &mut [u8], job: &[u8]) -> Text
     ensures { λ r. ⌜ Prints (now (job .entry)) (now (guest .entry)) r (now (guest .exit)) ⌝ }
 {
-    let said = work(guest, job);
-    telling::tell(said)
+    let answer = work(guest, job);
+    let image = table::image(job);
+    telling::tell(format_of(image.kind), answer)
 }

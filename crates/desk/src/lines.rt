@@ -3,23 +3,22 @@ ghost use lib.ListN.{length};
 ghost use Rattle.guest.specs.Loading.{Loads};
 ghost use Rattle.guest.specs.Room.{wholeOf};
 ghost use Rattle.desk.specs.Work.{linePlan, addPlan};
-use crate::Said;
 use cmdline::Cmdline;
+use guest::Answer;
 use guest::GuestAddress;
 use guest::maps;
-use loader::Answer;
 
 // The capacity of the line.
 const CAPACITY: usize = 4096;
 
 // Puts the line of a text at an address.
-fn put(guest: &mut [u8], at: u64, text: &[u8]) -> Answer
+fn put(guest: &mut [u8], at: u64, text: &[u8]) -> loader::Answer
     ensures { λ r. ⌜ Loads (linePlan (now (text .entry)) (wholeOf (length (now (guest .entry)))) at) (now (guest .entry)) r (now (guest .exit)) ⌝ }
 {
     let reply = Cmdline::try_from(text, CAPACITY);
     let answer = reply.answer;
     match answer {
-        cmdline::Answer::Refused(refusal) => Answer::Refused(refusal),
+        cmdline::Answer::Refused(refusal) => loader::Answer::Refused(refusal),
         cmdline::Answer::Accepted => {
             let map = maps::whole(guest.len() as u64);
             loader::load_cmdline(guest, map, GuestAddress(at), reply.line)
@@ -27,17 +26,17 @@ fn put(guest: &mut [u8], at: u64, text: &[u8]) -> Answer
     }
 }
 
-// What is said after an image: the refusal of the image, else that of the line, else the kernel.
-pub(crate) fn add(guest: &mut [u8], said: Said, text: &[u8]) -> Said
-    ensures { λ r. ⌜ Loads (addPlan said (now (text .entry)) (wholeOf (length (now (guest .entry))))) (now (guest .entry)) r (now (guest .exit)) ⌝ }
+// The answer after an image: the refusal of the image, else that of the line, else the kernel.
+pub(crate) fn add(guest: &mut [u8], answer: Answer, text: &[u8]) -> Answer
+    ensures { λ r. ⌜ Loads (addPlan answer (now (text .entry)) (wholeOf (length (now (guest .entry))))) (now (guest .entry)) r (now (guest .exit)) ⌝ }
 {
-    match said {
-        Said::Refused(refusal) => Said::Refused(refusal),
-        Said::Loaded(kernel) => {
-            let answer = put(guest, kernel.end, text);
-            match answer {
-                Answer::Refused(refusal) => Said::Refused(refusal),
-                Answer::Loaded => Said::Loaded(kernel),
+    match answer {
+        Answer::Refused(refusal) => Answer::Refused(refusal),
+        Answer::Loaded(kernel) => {
+            let line = put(guest, kernel.kernel_end.0, text);
+            match line {
+                loader::Answer::Refused(refusal) => Answer::Refused(refusal),
+                loader::Answer::Loaded => Answer::Loaded(kernel),
             }
         }
     }

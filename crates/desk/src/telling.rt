@@ -4,11 +4,12 @@ ghost use mathlib.Core.List.{[], _∷_, _++_};
 ghost use lib.ListN.{length};
 ghost use Rattle.cmdline.specs.Digits.{decimal};
 ghost use Rattle.slugs.specs.Stored.{Stored};
-ghost use Rattle.desk.specs.Printing.{numberLine, pvhLine, saidText, heldText};
-use crate::Pvh;
-use crate::Said;
+ghost use Rattle.desk.specs.Printing.{numberLine, pvhText, pvhLine, answerText, heldText};
 use crate::Text;
 use cmdline::digits;
+use guest::Answer;
+use guest::PvhBootCapability;
+use loads::Format;
 use slugs::buffers;
 
 // A word with its space, a number and a line feed, put from a place on; the place after them.
@@ -20,37 +21,47 @@ fn put_line(d: &mut [u8], at: usize, word: &[u8], n: u64) -> usize
     buffers::put(d, at, b"\n")
 }
 
-fn put_pvh(d: &mut [u8], at: usize, pvh: Pvh) -> usize
-    ensures { λ r. ⌜ Stored (now (d .entry)) at (pvhLine pvh) (now (d .exit)) r ⌝ }
+fn put_pvh_text(d: &mut [u8], at: usize, pvh: PvhBootCapability) -> usize
+    ensures { λ r. ⌜ Stored (now (d .entry)) at (pvhText pvh) (now (d .exit)) r ⌝ }
 {
     match pvh {
-        Pvh::Untold => buffers::put(d, at, b""),
-        Pvh::Ignored => buffers::put(d, at, b"pvh ignored\n"),
-        Pvh::Absent => buffers::put(d, at, b"pvh none\n"),
-        Pvh::At(entry) => put_line(d, at, b"pvh ", entry),
+        PvhBootCapability::PvhEntryIgnored => buffers::put(d, at, b"pvh ignored\n"),
+        PvhBootCapability::PvhEntryNotPresent => buffers::put(d, at, b"pvh none\n"),
+        PvhBootCapability::PvhEntryPresent(note) => put_line(d, at, b"pvh ", note.entry.0),
+    }
+}
+
+// Only of an ELF image.
+fn put_pvh(d: &mut [u8], at: usize, format: Format, pvh: PvhBootCapability) -> usize
+    ensures { λ r. ⌜ Stored (now (d .entry)) at (pvhLine format pvh) (now (d .exit)) r ⌝ }
+{
+    match format {
+        Format::Elf => put_pvh_text(d, at, pvh),
+        Format::BzImage => buffers::put(d, at, b""),
+        Format::Arm64 => buffers::put(d, at, b""),
     }
 }
 
 // The whole text, at the front of d; the place after it.
-fn put_said(d: &mut [u8], said: Said) -> usize
-    ensures { λ r. ⌜ Stored (now (d .entry)) 0 (saidText said) (now (d .exit)) r ⌝ }
+fn put_answer(d: &mut [u8], format: Format, answer: Answer) -> usize
+    ensures { λ r. ⌜ Stored (now (d .entry)) 0 (answerText format answer) (now (d .exit)) r ⌝ }
 {
-    match said {
-        Said::Refused(refusal) => put_line(d, 0, b"refused ", answers::number(refusal) as u64),
-        Said::Loaded(kernel) => {
-            let at = put_line(d, 0, b"load ", kernel.load);
-            let at = put_line(d, at, b"end ", kernel.end);
-            let pvh = kernel.pvh;
-            put_pvh(d, at, pvh)
+    match answer {
+        Answer::Refused(refusal) => put_line(d, 0, b"refused ", answers::number(refusal) as u64),
+        Answer::Loaded(kernel) => {
+            let at = put_line(d, 0, b"load ", kernel.kernel_load.0);
+            let at = put_line(d, at, b"end ", kernel.kernel_end.0);
+            let pvh = kernel.pvh_boot_cap;
+            put_pvh(d, at, format, pvh)
         }
     }
 }
 
-pub(crate) fn tell(said: Said) -> Text
-    ensures { λ r. ⌜ r ≡ heldText (saidText said) ⌝ }
+pub(crate) fn tell(format: Format, answer: Answer) -> Text
+    ensures { λ r. ⌜ r ≡ heldText (answerText format answer) ⌝ }
 {
     let mut bytes = [0u8; 80];
-    let length = put_said(&mut bytes, said);
+    let length = put_answer(&mut bytes, format, answer);
     Text {
         bytes: bytes,
         length: length,

@@ -15,8 +15,6 @@ ghost use lib.ListN.{length};
 ghost use Rattle.elf.specs.Notes.{isWanted, skipOf, turnAt, walkOf, entryOf, toldOf};
 use crate::ElfNote;
 use crate::NoteAnswer;
-use guest::PvhBootCapability;
-use guest::PvhNote;
 use answers::Refusal;
 use fields::numbers;
 use fields::ranges;
@@ -24,6 +22,8 @@ use fields::rounding;
 use fields::tags;
 use guest::GuestAddress;
 use guest::ImagePlace;
+use guest::PvhBootCapability;
+use guest::PvhNote;
 use reading::NoteHeader;
 
 // What one note says to the walk: its descriptor is wanted, or the next note is so many bytes further.

@@ -78,6 +78,9 @@ pub fn part(image: &[u8], options: Options, i: u64) -> Part
     match format {
         Format::Elf => elf::parts::part(image, offset, i),
         Format::BzImage => only(bzimage::parts::part(image, offset), i),
-        Format::Arm64 => only(arm64::parts::part(image, GuestAddress(addresses::amount(offset))), i),
+        Format::Arm64 => only(
+            arm64::parts::part(image, GuestAddress(addresses::amount(offset))),
+            i,
+        ),
     }
 }

@@ -3,7 +3,9 @@
 use rekusoyen::cmdline::Cmdline;
 use rekusoyen::loader::arm64::Image;
 use rekusoyen::loader::elf::PvhNote;
-use rekusoyen::loader::{load_cmdline_into, BzImage, Elf, KernelLoaderResult, Step, StepError};
+use rekusoyen::loader::{
+    self, load_cmdline_into, BzImage, Elf, KernelLoaderResult, Step, StepError,
+};
 use rekusoyen::{GuestAddress, Map, Refusal};
 use std::num::NonZeroU64;
 
@@ -41,14 +43,13 @@ pub struct Refused {
     pub line_at: Option<GuestAddress>,
 }
 
-/// The loader that an image is for: bzImage or arm64 where only the four letters of its header stand, else ELF, whose refusals say what is missing.
+/// The loader that an image is for: by its magic number, or else ELF, whose refusals say what is missing.
 pub fn format_of(image: &[u8], asked: Format) -> Format {
-    match asked {
-        Format::Auto if image.starts_with(b"\x7fELF") => Format::Elf,
-        Format::Auto if image.get(0x202..0x206) == Some(b"HdrS") => Format::BzImage,
-        Format::Auto if image.get(56..60) == Some(b"ARM\x64") => Format::Arm64,
-        Format::Auto => Format::Elf,
-        given => given,
+    match (asked, loader::Format::of(image)) {
+        (Format::Auto, Some(loader::Format::BzImage)) => Format::BzImage,
+        (Format::Auto, Some(loader::Format::Arm64)) => Format::Arm64,
+        (Format::Auto, _) => Format::Elf,
+        (given, _) => given,
     }
 }
 
@@ -132,7 +133,7 @@ fn put_line(guest: &mut [u8], at: GuestAddress, text: &str) -> Result<u64, Refus
     Ok(written.as_bytes_with_nul().len() as u64)
 }
 
-fn refusal_of(error: rekusoyen::loader::Error) -> Refusal {
+fn refusal_of(error: loader::Error) -> Refusal {
     error
         .refusal()
         .expect("over bytes every error stands for a refusal")

@@ -16,9 +16,8 @@ use std::fmt;
 use vm_memory::{Bytes, GuestMemoryBackend};
 
 use super::{BootConfigurator, BootParams, Error as BootConfiguratorError, Result};
-use crate::entry::{self, START_BLOCK_NUMBERS};
 use crate::loader::elf::start_info::XEN_HVM_START_MAGIC_VALUE;
-use crate::start_info::{self, Reader, Start};
+use crate::start_info::{self, Start};
 use crate::{GuestAddress, Map, Refusal};
 
 /// Boot configurator for the PVH boot protocol.
@@ -125,9 +124,9 @@ impl BootConfigurator for PvhBootConfigurator {
             None => (&no_modules, params.header_start),
         };
         let lists = Lists {
-            modules: numbers_of(entry::rekusoyen_start_modules, modules, 32)
+            modules: numbers_of(start_info::module_numbers, modules, 32)
                 .ok_or(Error::ModulesSetup)?,
-            ranges: numbers_of(entry::rekusoyen_start_ranges, memmap, 24)
+            ranges: numbers_of(start_info::range_numbers, memmap, 24)
                 .ok_or(Error::MemmapTableSetup)?,
         };
         let parts = [
@@ -168,10 +167,12 @@ struct Lists {
 }
 
 /// The numbers of rows of `size` bytes, if they are whole rows, as the library reads them.
-fn numbers_of(reader: Reader, bytes: &[u8], size: usize) -> Option<Vec<u64>> {
-    let mut numbers = vec![0; bytes.len() / size * 4];
-    start_info::read(reader, bytes, 0, &mut numbers);
-    (bytes.len() % size == 0).then(|| numbers)
+fn numbers_of(
+    read: fn(&[u8], u64, usize) -> Vec<u64>,
+    bytes: &[u8],
+    size: usize,
+) -> Option<Vec<u64>> {
+    (bytes.len() % size == 0).then(|| read(bytes, 0, bytes.len() / size))
 }
 
 /// Addresses near 0 at which parts of these sizes overlap exactly where they do at their own: each begins as far behind the one before as there, but
@@ -194,8 +195,7 @@ fn written(
     lists: &Lists,
     places: [u64; 3],
 ) -> std::result::Result<[Vec<u8>; 3], Error> {
-    let mut given = [0; START_BLOCK_NUMBERS];
-    start_info::read(entry::rekusoyen_start_block, header, 0, &mut given);
+    let given = start_info::block_numbers(header, 0);
     let [magic, version, flags, _, _, command_line, rsdp, _, _, reserved] = given;
     let right = (u64::from(XEN_HVM_START_MAGIC_VALUE), 1, 0);
     if header.len() != BLOCK_SIZE || (magic, version, reserved) != right {

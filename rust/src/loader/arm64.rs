@@ -1,10 +1,10 @@
-//! arm64 Images of Linux: the whole file, header and all, goes behind a base address.
+//! arm64 Images of Linux: the whole file, with its header, is loaded from a base address on.
 
 use std::fmt;
 
-use super::{told, KernelLoaderResult, Result};
-use crate::lent::{self, Guest};
-use crate::{GuestAddress, Refusal};
+use super::format::{Format, Options};
+use super::{KernelLoaderResult, Result};
+use crate::GuestAddress;
 
 /// Why an arm64 Image was not loaded.
 #[derive(Clone, Copy, Debug, PartialEq, Eq)]
@@ -58,6 +58,7 @@ impl fmt::Display for Error {
 impl std::error::Error for Error {}
 
 /// arm64 Image support.
+#[derive(Clone, Copy, Debug, PartialEq, Eq)]
 pub struct Image;
 
 impl Image {
@@ -89,27 +90,8 @@ impl Image {
         base: GuestAddress,
         kernel_image: &[u8],
     ) -> Result<KernelLoaderResult> {
-        load(guest.into(), kernel_image, base)
-    }
-}
-
-pub(super) fn load(guest: Guest, image: &[u8], base: GuestAddress) -> Result<KernelLoaderResult> {
-    loaded(guest, image, base).map_err(told::by_arm64)
-}
-
-pub(super) fn loaded(
-    guest: Guest,
-    image: &[u8],
-    base: GuestAddress,
-) -> std::result::Result<KernelLoaderResult, Refusal> {
-    lent::arm64_load(guest, image, base.0).map(by_values)
-}
-
-/// What an accepted load's values say.
-pub(super) fn by_values([load, end]: [u64; 2]) -> KernelLoaderResult {
-    KernelLoaderResult {
-        kernel_load: GuestAddress(load),
-        kernel_end: end,
-        ..Default::default()
+        let options = Options::new(Some(base), None);
+        let loaded = Format::Arm64.load_into(guest, kernel_image, options);
+        loaded.map(|(kernel, _)| kernel)
     }
 }

@@ -9,9 +9,9 @@
 
 use std::fmt;
 
-use super::{bootparam, told, KernelLoaderResult, Result};
-use crate::lent::{self, Guest, Options};
-use crate::{GuestAddress, Refusal};
+use super::format::{Format, Options};
+use super::{KernelLoaderResult, Result};
+use crate::GuestAddress;
 
 /// Why a bzImage was not loaded.
 #[derive(Clone, Copy, Debug, PartialEq, Eq)]
@@ -91,32 +91,8 @@ impl BzImage {
         kernel_image: &[u8],
         highmem_start_address: Option<GuestAddress>,
     ) -> Result<KernelLoaderResult> {
-        let options = Options {
-            offset: kernel_offset,
-            highmem: highmem_start_address,
-        };
-        load(guest.into(), kernel_image, options)
-    }
-}
-
-pub(super) fn load(guest: Guest, image: &[u8], options: Options) -> Result<KernelLoaderResult> {
-    loaded(guest, image, options).map_err(told::by_bzimage)
-}
-
-pub(super) fn loaded(
-    guest: Guest,
-    image: &[u8],
-    options: Options,
-) -> std::result::Result<KernelLoaderResult, Refusal> {
-    lent::bzimage_load(guest, image, options).map(by_values)
-}
-
-/// What the values of an accepted load say.
-pub(super) fn by_values(loaded: lent::BzImageLoaded) -> KernelLoaderResult {
-    KernelLoaderResult {
-        kernel_load: GuestAddress(loaded.kernel_load),
-        kernel_end: loaded.kernel_end,
-        setup_header: Some(bootparam::setup_header::from(loaded.setup_header)),
-        ..Default::default()
+        let options = Options::new(kernel_offset, highmem_start_address);
+        let loaded = Format::BzImage.load_into(guest, kernel_image, options);
+        loaded.map(|(kernel, _)| kernel)
     }
 }

@@ -36,10 +36,12 @@
 use std::fmt;
 use std::ops::Range;
 
-use super::{told, KernelLoaderResult, Result};
+use super::format::{Format, Options};
+use super::{errors, KernelLoaderResult, Result};
 use crate::entry;
-use crate::lent::{self, Guest, Options};
-use crate::{GuestAddress, Refusal};
+use crate::ffi::call;
+use crate::refusal::answered;
+use crate::GuestAddress;
 
 pub mod start_info;
 
@@ -141,13 +143,13 @@ impl fmt::Display for PvhBootCapability {
     }
 }
 
-/// PVH as the library tells it: a code, and an address that means something for one of them.
-fn pvh(code: u64, address: u64) -> PvhBootCapability {
+/// PVH as the library encodes it: a code, and an address that means something for one of them.
+pub(super) fn pvh(code: u64, address: u64) -> PvhBootCapability {
     match code {
         entry::PVH_IGNORED => PvhBootCapability::PvhEntryIgnored,
         entry::PVH_NOT_PRESENT => PvhBootCapability::PvhEntryNotPresent,
         entry::PVH_PRESENT => PvhBootCapability::PvhEntryPresent(GuestAddress(address)),
-        _ => unreachable!("PVH has three codes, and the library told {code}"),
+        _ => unreachable!("PVH has three codes, and the library returned {code}"),
     }
 }
 
@@ -160,8 +162,8 @@ pub struct PvhNote {
     pub size: u64,
 }
 
-/// The note, where there is an entry.
-fn pvh_note(code: u64, place: u64, size: u64) -> Option<PvhNote> {
+/// The note, if there is an entry.
+pub(super) fn pvh_note(code: u64, place: u64, size: u64) -> Option<PvhNote> {
     (code == entry::PVH_PRESENT).then(|| PvhNote { place, size })
 }
 
@@ -233,42 +235,9 @@ impl Elf {
         kernel_image: &[u8],
         highmem_start_address: Option<GuestAddress>,
     ) -> Result<(KernelLoaderResult, Option<PvhNote>)> {
-        let options = Options {
-            offset: kernel_offset,
-            highmem: highmem_start_address,
-        };
-        load(guest.into(), kernel_image, options)
+        let options = Options::new(kernel_offset, highmem_start_address);
+        Format::Elf.load_into(guest, kernel_image, options)
     }
-}
-
-pub(super) fn load(
-    guest: Guest,
-    image: &[u8],
-    options: Options,
-) -> Result<(KernelLoaderResult, Option<PvhNote>)> {
-    loaded(guest, image, options).map_err(told::by_elf)
-}
-
-pub(super) fn loaded(
-    guest: Guest,
-    image: &[u8],
-    options: Options,
-) -> std::result::Result<(KernelLoaderResult, Option<PvhNote>), Refusal> {
-    lent::elf_load(guest, image, options).map(by_values)
-}
-
-/// What the values of an accepted load say.
-pub(super) fn by_values(
-    values: [u64; entry::ELF_LOAD_OUT],
-) -> (KernelLoaderResult, Option<PvhNote>) {
-    let [kernel_load, kernel_end, code, address, place, size] = values;
-    let kernel = KernelLoaderResult {
-        kernel_load: GuestAddress(kernel_load),
-        kernel_end,
-        pvh_boot_cap: pvh(code, address),
-        setup_header: None,
-    };
-    (kernel, pvh_note(code, place, size))
 }
 
 /// What a walk over notes finds.
@@ -297,8 +266,10 @@ pub struct Notes {
 /// # Ok::<(), rekusoyen::loader::Error>(())
 /// ```
 pub fn notes(image: &[u8], p_offset: u64, p_filesz: u64) -> Result<Notes> {
-    let [code, address, headers, place, size] =
-        lent::elf_note(image, p_offset, p_filesz).map_err(told::by_elf)?;
+    let mut note = [0; entry::NOTE_NUMBERS];
+    answered(call!(rekusoyen_raw_elf_note(in image, p_offset, p_filesz, mut &mut note)))
+        .map_err(|refusal| errors::of(Format::Elf, refusal))?;
+    let [code, address, headers, place, size] = note;
     Ok(Notes {
         pvh_boot_cap: pvh(code, address),
         pvh_note: pvh_note(code, place, size),

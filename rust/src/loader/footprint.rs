@@ -1,12 +1,12 @@
-//! The bytes of an image that a plan looks at, read from a file or another reader. All other bytes count as 0: it is proved that two images of one
-//! length that agree in their footprint have the same plan, and that its parts, copied from the whole image, are its load (`planned-elsewhere` of the
-//! crates `elf`, `bzimage` and `arm64`).
+//! The bytes of an image that a plan looks at, read from a file or another reader. All other bytes count as 0: it is
+//! proved that two images of one length that agree in their footprint have the same plan, and that its parts, copied
+//! from the whole image, are its load (`docs/PROMISES.md` of the repository).
 
 use std::hint::black_box;
 use std::io::{self, Read, Seek, SeekFrom};
 use std::ops::Range;
 
-use super::{arm64, bzimage, elf, regions, told, Result};
+use super::{arm64, bzimage, elf, errors, regions, Error, Format, Result};
 use crate::entry::{LONGEST_SLICE, SETUP_HEADER_SIZE};
 use crate::Refusal;
 
@@ -27,7 +27,20 @@ pub(super) struct Footprint {
 }
 
 impl Footprint {
-    /// Of an image of this length, before any of it is read. An error where the system does not give the memory.
+    /// What the plan of an image of a format looks at.
+    pub(super) fn of<F: Read + Seek>(
+        format: Format,
+        image: &mut F,
+        notes_are_walked: bool,
+    ) -> Result<Footprint> {
+        match format {
+            Format::Elf => of_elf(image, notes_are_walked),
+            Format::BzImage => of_bzimage(image),
+            Format::Arm64 => of_arm64(image),
+        }
+    }
+
+    /// Of an image of this length, before any of it is read. An error if the system does not give the memory.
     fn blank(length: usize) -> io::Result<Footprint> {
         let size = length.max(MAPPED);
         // `vec!` would end the process where there is no memory, so it is asked for once before in a way that may fail; the hint keeps the
@@ -65,23 +78,19 @@ impl Footprint {
 }
 
 /// The footprint of an image before any of it is read; the errors are those of a seek that fails and of memory that is not given.
-fn begin<F: Seek>(
-    image: &mut F,
-    [seek, memory]: [super::Error; 2],
-    told: fn(Refusal) -> super::Error,
-) -> Result<Footprint> {
+fn begin<F: Seek>(format: Format, image: &mut F, [seek, memory]: [Error; 2]) -> Result<Footprint> {
     let length = image.seek(SeekFrom::End(0)).map_err(|_| seek)?;
     if length > LONGEST_SLICE {
-        return Err(told(Refusal::SliceTooLong));
+        return Err(errors::of(format, Refusal::SliceTooLong));
     }
     Footprint::blank(length as usize).map_err(|_| memory)
 }
 
 /// The ELF header, the program headers, and the notes where they are walked.
-pub(super) fn of_elf<F: Read + Seek>(image: &mut F, notes_are_walked: bool) -> Result<Footprint> {
+fn of_elf<F: Read + Seek>(image: &mut F, notes_are_walked: bool) -> Result<Footprint> {
     use elf::Error::*;
-    let errors = [SeekElfStart, ReadKernelImage].map(super::Error::Elf);
-    let mut footprint = begin(image, errors, told::by_elf)?;
+    let errors = [SeekElfStart, ReadKernelImage].map(Error::Elf);
+    let mut footprint = begin(Format::Elf, image, errors)?;
     let header = 0..64;
     footprint.read(image, header.clone(), [SeekElfStart, ReadElfHeader])?;
     // what is no ELF image is refused before more of it is looked at
@@ -128,20 +137,20 @@ fn without(range: Range<u64>, other: &Range<u64>) -> impl Iterator<Item = Range<
 }
 
 /// The setup header of a bzImage.
-pub(super) fn of_bzimage<F: Read + Seek>(image: &mut F) -> Result<Footprint> {
+fn of_bzimage<F: Read + Seek>(image: &mut F) -> Result<Footprint> {
     use bzimage::Error::*;
-    let errors = [SeekBzImageEnd, ReadBzImageHeader].map(super::Error::Bzimage);
-    let mut footprint = begin(image, errors, told::by_bzimage)?;
+    let errors = [SeekBzImageEnd, ReadBzImageHeader].map(Error::Bzimage);
+    let mut footprint = begin(Format::BzImage, image, errors)?;
     let header = SETUP_HEADER..SETUP_HEADER + SETUP_HEADER_SIZE as u64;
     footprint.read(image, header, [SeekBzImageHeader, ReadBzImageHeader])?;
     Ok(footprint)
 }
 
 /// The header of an arm64 Image.
-pub(super) fn of_arm64<F: Read + Seek>(image: &mut F) -> Result<Footprint> {
+fn of_arm64<F: Read + Seek>(image: &mut F) -> Result<Footprint> {
     use arm64::Error::*;
-    let errors = [SeekImage, ReadImage].map(super::Error::Arm64);
-    let mut footprint = begin(image, errors, told::by_arm64)?;
+    let errors = [SeekImage, ReadImage].map(Error::Arm64);
+    let mut footprint = begin(Format::Arm64, image, errors)?;
     footprint.read(image, 0..64, [SeekImage, ReadImage])?;
     Ok(footprint)
 }

@@ -8,11 +8,14 @@ use std::io::{Read, Seek, SeekFrom};
 
 use vm_memory::{Bytes, GuestMemoryBackend, ReadVolatile};
 
-use super::plan::{self, Plan};
+use super::footprint::Footprint;
+use super::format::{Format, Options};
 use super::regions::{end_of, map_of, range_with};
-use super::{arm64, bzimage, elf, footprint, told};
-use super::{BzImage, Cmdline, Elf, Error, KernelLoaderResult, Result};
-use crate::lent::{plans, Options};
+use super::{
+    arm64, bzimage, elf, errors, Cmdline, Error, InSteps, KernelLoaderResult, Plan, Result,
+};
+use crate::ffi::call;
+use crate::refusal::answered;
 use crate::GuestAddress;
 
 /// How a kernel of some format is put into guest memory.
@@ -36,7 +39,9 @@ pub trait KernelLoader {
         F: Read + ReadVolatile + Seek;
 }
 
-impl KernelLoader for Elf {
+/// [`Elf`](super::Elf), [`BzImage`](super::BzImage) and [`arm64::Image`]. The offset of an arm64 Image is its base,
+/// and 0 if none is given; the start of high memory has no meaning for it.
+impl<L: InSteps> KernelLoader for L {
     fn load<F, M: GuestMemoryBackend>(
         guest_mem: &M,
         kernel_offset: Option<GuestAddress>,
@@ -46,85 +51,41 @@ impl KernelLoader for Elf {
     where
         F: Read + ReadVolatile + Seek,
     {
-        let footprint = footprint::of_elf(kernel_image, kernel_offset.is_none())?;
-        let options = Options {
-            offset: kernel_offset,
-            highmem: highmem_start_address,
-        };
-        let plan = plan::elf(&map_of(guest_mem), footprint.bytes(), options);
+        let options = Options::new(kernel_offset, highmem_start_address);
+        let footprint = Footprint::of(L::FORMAT, kernel_image, kernel_offset.is_none())?;
+        let plan = L::FORMAT.plan(&map_of(guest_mem), footprint.bytes(), options);
         drop(footprint);
-        let errors = [elf::Error::SeekKernelStart, elf::Error::ReadKernelImage];
-        copied(guest_mem, kernel_image, plan.map_err(told::by_elf)?, errors)
+        let plan = plan.map_err(|refusal| errors::of(L::FORMAT, refusal))?;
+        copied(guest_mem, kernel_image, plan, copy_errors(L::FORMAT))
     }
 }
 
-impl KernelLoader for BzImage {
-    fn load<F, M: GuestMemoryBackend>(
-        guest_mem: &M,
-        kernel_offset: Option<GuestAddress>,
-        kernel_image: &mut F,
-        highmem_start_address: Option<GuestAddress>,
-    ) -> Result<KernelLoaderResult>
-    where
-        F: Read + ReadVolatile + Seek,
-    {
-        use bzimage::Error::{ReadBzImageCompressedKernel, SeekBzImageCompressedKernel};
-        let footprint = footprint::of_bzimage(kernel_image)?;
-        let options = Options {
-            offset: kernel_offset,
-            highmem: highmem_start_address,
-        };
-        let plan = plan::bzimage(&map_of(guest_mem), footprint.bytes(), options);
-        drop(footprint);
-        let errors = [SeekBzImageCompressedKernel, ReadBzImageCompressedKernel];
-        copied(
-            guest_mem,
-            kernel_image,
-            plan.map_err(told::by_bzimage)?,
-            errors,
-        )
-    }
-}
-
-impl KernelLoader for arm64::Image {
-    /// The offset is the base, and 0 where none is given; the start of high memory is not looked at.
-    fn load<F, M: GuestMemoryBackend>(
-        guest_mem: &M,
-        kernel_offset: Option<GuestAddress>,
-        kernel_image: &mut F,
-        _highmem_start_address: Option<GuestAddress>,
-    ) -> Result<KernelLoaderResult>
-    where
-        F: Read + ReadVolatile + Seek,
-    {
-        let footprint = footprint::of_arm64(kernel_image)?;
-        let base = kernel_offset.unwrap_or(GuestAddress(0));
-        let plan = plan::arm64(&map_of(guest_mem), footprint.bytes(), base);
-        drop(footprint);
-        let errors = [arm64::Error::SeekImage, arm64::Error::ReadImage];
-        copied(
-            guest_mem,
-            kernel_image,
-            plan.map_err(told::by_arm64)?,
-            errors,
-        )
+/// The errors of a seek and of a copy that fail.
+fn copy_errors(format: Format) -> [Error; 2] {
+    use bzimage::Error::{ReadBzImageCompressedKernel, SeekBzImageCompressedKernel};
+    match format {
+        Format::Elf => [elf::Error::SeekKernelStart, elf::Error::ReadKernelImage].map(Error::Elf),
+        Format::BzImage => {
+            [SeekBzImageCompressedKernel, ReadBzImageCompressedKernel].map(Error::Bzimage)
+        }
+        Format::Arm64 => [arm64::Error::SeekImage, arm64::Error::ReadImage].map(Error::Arm64),
     }
 }
 
 /// Copies the parts of a plan from the image into guest memory. The errors are those of a seek and of a copy that fail.
-fn copied<F: ReadVolatile + Seek, M: GuestMemoryBackend, E: Into<Error> + Copy>(
+fn copied<F: ReadVolatile + Seek, M: GuestMemoryBackend>(
     guest_mem: &M,
     image: &mut F,
     plan: Plan,
-    [seek, read]: [E; 2],
+    [seek, read]: [Error; 2],
 ) -> Result<KernelLoaderResult> {
     for part in plan.parts {
         let place = SeekFrom::Start(part.place);
-        image.seek(place).map_err(|_| seek.into())?;
+        image.seek(place).map_err(|_| seek)?;
         // a part has at most 2^40 bytes
         guest_mem
             .read_exact_volatile_from(part.address, image, part.size as usize)
-            .map_err(|_| read.into())?;
+            .map_err(|_| read)?;
     }
     Ok(plan.kernel)
 }
@@ -156,10 +117,11 @@ pub fn load_cmdline<M: GuestMemoryBackend>(
     let text = text.as_bytes_with_nul();
     // a line lies within one range, or is refused: the others do not matter, nor how many there are
     let range = range_with(&map_of(guest_mem), guest_addr);
-    let answer = plans::line_plan(&range, guest_addr, cmdline.bytes());
-    answer.map_err(|refusal| {
+    let (ranges, line) = (range.numbers(), cmdline.bytes());
+    let answer = call!(rekusoyen_line_plan(range.end(), in ranges, guest_addr.0, in line));
+    answered(answer).map_err(|refusal| {
         let last = guest_addr.0.checked_add(text.len() as u64 - 1);
-        match told::by_line(refusal) {
+        match errors::of_line(refusal) {
             // at a hole linux-loader has another error than at the end
             Error::CommandLineOverflow if last.is_some_and(|last| last < end_of(guest_mem)) => {
                 Error::CommandLineCopy

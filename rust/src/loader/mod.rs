@@ -10,8 +10,9 @@
 
 use std::fmt;
 
-use crate::lent::{self, Guest};
-use crate::{GuestAddress, GuestUsize, Refusal};
+use crate::ffi::call;
+use crate::refusal::answered;
+use crate::{GuestAddress, GuestUsize, Map, Refusal};
 
 pub use crate::cmdline::Cmdline;
 
@@ -19,8 +20,10 @@ pub mod arm64;
 pub mod bootparam;
 pub mod bzimage;
 pub mod elf;
+mod errors;
 #[cfg(feature = "vm-memory")]
 mod footprint;
+mod format;
 #[cfg(feature = "vm-memory")]
 mod guest_memory;
 mod over_map;
@@ -28,10 +31,10 @@ mod plan;
 mod portions;
 #[cfg(feature = "vm-memory")]
 mod regions;
-mod told;
 
 pub use bzimage::*;
 pub use elf::*;
+pub use format::Format;
 #[cfg(feature = "vm-memory")]
 pub use guest_memory::{load_cmdline, KernelLoader};
 pub use over_map::{load_cmdline_into_map, MapError};
@@ -142,17 +145,16 @@ pub fn load_cmdline_into(
     guest_addr: GuestAddress,
     cmdline: &Cmdline,
 ) -> Result<()> {
-    put_line(guest.into(), guest_addr, cmdline)
+    let map = Map::whole(guest.len());
+    put_line(guest, &map, guest_addr, cmdline).map_err(errors::of_line)
 }
 
-fn put_line(guest: Guest, guest_addr: GuestAddress, cmdline: &Cmdline) -> Result<()> {
-    put(guest, guest_addr, cmdline).map_err(told::by_line)
-}
-
-fn put(
-    guest: Guest,
+fn put_line(
+    guest: &mut [u8],
+    map: &Map,
     guest_addr: GuestAddress,
     cmdline: &Cmdline,
 ) -> std::result::Result<(), Refusal> {
-    lent::line_load(guest, guest_addr, cmdline.bytes())
+    let (map, line) = (map.numbers(), cmdline.bytes());
+    answered(call!(rekusoyen_line_load(mut guest, in map, guest_addr.0, in line)))
 }

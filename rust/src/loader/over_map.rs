@@ -2,10 +2,8 @@
 
 use std::fmt;
 
-use super::{
-    arm64, bzimage, elf, put, told, BzImage, Cmdline, Elf, Error, KernelLoaderResult, PvhNote,
-};
-use crate::lent::{Guest, Options};
+use super::format::{Format, Options};
+use super::{arm64, errors, put_line, BzImage, Cmdline, Elf, Error, KernelLoaderResult, PvhNote};
 use crate::{GuestAddress, Map, Refusal};
 
 /// Why a kernel or a line was not put into guest memory that has a map.
@@ -18,6 +16,18 @@ pub enum MapError {
 }
 
 impl MapError {
+    /// The error of a refused load.
+    pub(super) fn of(format: Format, refusal: Refusal) -> MapError {
+        MapError::by(refusal, |refusal| errors::of(format, refusal))
+    }
+
+    fn by(refusal: Refusal, error: impl FnOnce(Refusal) -> Error) -> MapError {
+        match refusal {
+            Refusal::BadMap => MapError::BadMap,
+            refusal => MapError::Load(error(refusal)),
+        }
+    }
+
     /// The refusal that this error stands for.
     pub fn refusal(&self) -> Option<Refusal> {
         match self {
@@ -57,14 +67,6 @@ impl std::error::Error for MapError {
 }
 
 type Result<T> = std::result::Result<T, MapError>;
-
-/// The error of a refusal over a map; `told` names all others.
-pub(super) fn error(refusal: Refusal, told: fn(Refusal) -> Error) -> MapError {
-    match refusal {
-        Refusal::BadMap => MapError::BadMap,
-        refusal => MapError::Load(told(refusal)),
-    }
-}
 
 impl Elf {
     /// Loads an image as [`load_into`](Elf::load_into) does, into guest memory that has a map. Each segment lies within one range, or the
@@ -119,12 +121,8 @@ impl Elf {
         kernel_image: &[u8],
         highmem_start_address: Option<GuestAddress>,
     ) -> Result<(KernelLoaderResult, Option<PvhNote>)> {
-        let options = Options {
-            offset: kernel_offset,
-            highmem: highmem_start_address,
-        };
-        let loaded = elf::loaded(Guest::over(guest, map), kernel_image, options);
-        loaded.map_err(|refusal| error(refusal, told::by_elf))
+        let options = Options::new(kernel_offset, highmem_start_address);
+        Format::Elf.load_into_map(guest, map, kernel_image, options)
     }
 }
 
@@ -138,12 +136,9 @@ impl BzImage {
         kernel_image: &[u8],
         highmem_start_address: Option<GuestAddress>,
     ) -> Result<KernelLoaderResult> {
-        let options = Options {
-            offset: kernel_offset,
-            highmem: highmem_start_address,
-        };
-        let loaded = bzimage::loaded(Guest::over(guest, map), kernel_image, options);
-        loaded.map_err(|refusal| error(refusal, told::by_bzimage))
+        let options = Options::new(kernel_offset, highmem_start_address);
+        let loaded = Format::BzImage.load_into_map(guest, map, kernel_image, options);
+        loaded.map(|(kernel, _)| kernel)
     }
 }
 
@@ -156,8 +151,9 @@ impl arm64::Image {
         base: GuestAddress,
         kernel_image: &[u8],
     ) -> Result<KernelLoaderResult> {
-        let loaded = arm64::loaded(Guest::over(guest, map), kernel_image, base);
-        loaded.map_err(|refusal| error(refusal, told::by_arm64))
+        let options = Options::new(Some(base), None);
+        let loaded = Format::Arm64.load_into_map(guest, map, kernel_image, options);
+        loaded.map(|(kernel, _)| kernel)
     }
 }
 
@@ -185,6 +181,6 @@ pub fn load_cmdline_into_map(
     guest_addr: GuestAddress,
     cmdline: &Cmdline,
 ) -> Result<()> {
-    let answer = put(Guest::over(guest, map), guest_addr, cmdline);
-    answer.map_err(|refusal| error(refusal, told::by_line))
+    let answer = put_line(guest, map, guest_addr, cmdline);
+    answer.map_err(|refusal| MapError::by(refusal, errors::of_line))
 }

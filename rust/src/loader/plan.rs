@@ -1,9 +1,11 @@
 //! What a load would do, without guest memory: its answer, and which bytes of the image go to which addresses. A caller whose guest memory is
 //! no slice, or whose image is not in memory, copies them by its own means.
 
-use super::over_map::{self, MapError};
-use super::{arm64, bzimage, elf, told, BzImage, Elf, KernelLoaderResult, PvhNote};
-use crate::lent::{plans, Options};
+use super::format::{Format, Options};
+use super::{arm64, BzImage, Elf, KernelLoaderResult, MapError, PvhNote};
+use crate::entry::{PART_NUMBERS, PLAN_NUMBERS};
+use crate::ffi::call;
+use crate::refusal::answered;
 use crate::{GuestAddress, Map, Refusal};
 
 /// Bytes of an image that a load copies: they lie within the image, and within one range of the map.
@@ -17,18 +19,6 @@ pub struct Part {
     pub size: u64,
 }
 
-impl Part {
-    /// The part of these numbers, where it has bytes.
-    fn of([address, place, size]: plans::Part) -> Option<Part> {
-        let address = GuestAddress(address);
-        (size > 0).then(|| Part {
-            address,
-            place,
-            size,
-        })
-    }
-}
-
 /// What an accepted load would do. Guest memory after the load is guest memory after its parts were copied in their order.
 #[derive(Clone, Debug, PartialEq)]
 pub struct Plan {
@@ -40,39 +30,42 @@ pub struct Plan {
     pub parts: Vec<Part>,
 }
 
-type Planned = Result<Plan, Refusal>;
-
-pub(super) fn elf(map: &Map, image: &[u8], options: Options) -> Planned {
-    let (values, count) = plans::elf_plan(map, image, options)?;
-    let (kernel, pvh_note) = elf::by_values(values);
-    let mut parts = Vec::new();
-    for index in 0..count {
-        parts.extend(Part::of(plans::elf_part(map, image, options, index)?));
-    }
-    Ok(Plan {
-        kernel,
-        pvh_note,
-        parts,
-    })
-}
-
-pub(super) fn bzimage(map: &Map, image: &[u8], options: Options) -> Planned {
-    let (loaded, part) = plans::bzimage_plan(map, image, options)?;
-    Ok(Plan::of_one(bzimage::by_values(loaded), part))
-}
-
-pub(super) fn arm64(map: &Map, image: &[u8], base: GuestAddress) -> Planned {
-    let (values, part) = plans::arm64_plan(map, image, base)?;
-    Ok(Plan::of_one(arm64::by_values(values), part))
-}
-
-impl Plan {
-    fn of_one(kernel: KernelLoaderResult, part: plans::Part) -> Plan {
-        Plan {
-            kernel,
-            pvh_note: None,
-            parts: Part::of(part).into_iter().collect(),
+impl Format {
+    /// The plan of a load. Guest memory ends with the last range of the map.
+    pub(super) fn plan(self, map: &Map, image: &[u8], options: Options) -> Result<Plan, Refusal> {
+        let (size, ranges) = (map.end(), map.numbers());
+        let Options {
+            flags,
+            offset,
+            highmem,
+        } = options;
+        let mut plan = [0; PLAN_NUMBERS];
+        answered(call!(rekusoyen_raw_plan(
+            size, in ranges, in image, self as u32, flags, offset, highmem, mut &mut plan
+        )))?;
+        let [numbers @ .., count] = plan;
+        let (kernel, pvh_note) = self.loaded(image, numbers);
+        let mut parts = Vec::new();
+        for index in 0..count {
+            let mut part = [0; PART_NUMBERS];
+            answered(call!(rekusoyen_raw_part(
+                size, in ranges, in image, self as u32, flags, offset, index, mut &mut part
+            )))?;
+            let [address, place, size] = part;
+            let address = GuestAddress(address);
+            if size > 0 {
+                parts.push(Part {
+                    address,
+                    place,
+                    size,
+                });
+            }
         }
+        Ok(Plan {
+            kernel,
+            pvh_note,
+            parts,
+        })
     }
 }
 
@@ -113,11 +106,9 @@ impl Elf {
         kernel_image: &[u8],
         highmem_start_address: Option<GuestAddress>,
     ) -> Result<Plan, MapError> {
-        let options = Options {
-            offset: kernel_offset,
-            highmem: highmem_start_address,
-        };
-        elf(map, kernel_image, options).map_err(|refusal| over_map::error(refusal, told::by_elf))
+        let options = Options::new(kernel_offset, highmem_start_address);
+        let plan = Format::Elf.plan(map, kernel_image, options);
+        plan.map_err(|refusal| MapError::of(Format::Elf, refusal))
     }
 }
 
@@ -129,18 +120,16 @@ impl BzImage {
         kernel_image: &[u8],
         highmem_start_address: Option<GuestAddress>,
     ) -> Result<Plan, MapError> {
-        let options = Options {
-            offset: kernel_offset,
-            highmem: highmem_start_address,
-        };
-        bzimage(map, kernel_image, options)
-            .map_err(|refusal| over_map::error(refusal, told::by_bzimage))
+        let options = Options::new(kernel_offset, highmem_start_address);
+        let plan = Format::BzImage.plan(map, kernel_image, options);
+        plan.map_err(|refusal| MapError::of(Format::BzImage, refusal))
     }
 }
 
 impl arm64::Image {
     /// What [`load_into_map`](arm64::Image::load_into_map) would do, as [`Elf::plan`] says it. Of the image only its header is looked at.
     pub fn plan(map: &Map, base: GuestAddress, kernel_image: &[u8]) -> Result<Plan, MapError> {
-        arm64(map, kernel_image, base).map_err(|refusal| over_map::error(refusal, told::by_arm64))
+        let plan = Format::Arm64.plan(map, kernel_image, Options::new(Some(base), None));
+        plan.map_err(|refusal| MapError::of(Format::Arm64, refusal))
     }
 }

@@ -1,15 +1,17 @@
 //! Images loaded in steps, each with a budget of bytes.
 
 use std::fmt;
+use std::marker::PhantomData;
 use std::num::NonZeroU64;
 
-use super::{arm64, bzimage, elf, told, BzImage, Elf, KernelLoaderResult, PvhNote, Result};
-use crate::entry;
-use crate::lent::{self, Guest, Options};
+use super::format::{Format, Options};
+use super::{arm64, errors, BzImage, Elf, KernelLoaderResult, PvhNote, Result};
+use crate::entry::{STATE_NUMBERS, STEP_NUMBERS};
+use crate::ffi::call;
 use crate::refusal::answered;
 use crate::{GuestAddress, Map, Refusal};
 
-/// What a step of a load did; `T` is what an accepted load tells.
+/// What a step of a load did; `T` is what an accepted load returns.
 #[derive(Clone, Debug, PartialEq)]
 pub struct Step<T> {
     /// How many bytes it copied.
@@ -48,7 +50,7 @@ impl StepError {
             Refusal::BadMap => StepError::BadMap,
             Refusal::NoBudget => StepError::NoBudget,
             Refusal::LentChanged => StepError::LentChanged,
-            // the state is written by the library alone, and both lists have their sizes
+            // only the library writes the state, and both lists have their sizes
             refusal => unreachable!("a step is not refused with {refusal:?}"),
         }
     }
@@ -64,110 +66,56 @@ impl std::error::Error for StepError {}
 
 /// A loader that can load in steps: [`Elf`], [`BzImage`] and [`arm64::Image`].
 pub trait InSteps: sealed::Sealed {
-    /// What is kept between two steps, as the library writes it.
-    #[doc(hidden)]
-    type State: Clone + fmt::Debug + PartialEq + Eq;
-
-    /// What an accepted load tells.
+    /// What an accepted load returns.
     type Loaded;
 
     #[doc(hidden)]
-    fn begin(options: sealed::Begin) -> Self::State;
+    const FORMAT: Format;
 
     #[doc(hidden)]
-    fn step(state: &mut Self::State, lent: sealed::Lent) -> sealed::Stepped<Self::Loaded>;
+    fn loaded(loaded: (KernelLoaderResult, Option<PvhNote>)) -> Self::Loaded;
 }
 
 mod sealed {
-    use super::{Options, Refusal, Step};
-    use crate::lent::Guest;
-
     pub trait Sealed {}
-
     impl Sealed for super::Elf {}
     impl Sealed for super::BzImage {}
     impl Sealed for super::arm64::Image {}
-
-    pub struct Begin(pub(super) Options);
-
-    pub struct Lent<'a> {
-        pub(super) guest: Guest<'a>,
-        pub(super) image: &'a [u8],
-        pub(super) budget: u64,
-    }
-
-    pub type Stepped<T> = Result<Step<T>, Refusal>;
-}
-
-/// The answer of a step, where there is one.
-fn answer<T>(
-    answers: u64,
-    number: u64,
-    loaded: impl FnOnce() -> T,
-    told: fn(Refusal) -> super::Error,
-) -> Option<Result<T>> {
-    (answers == 1).then(|| answered(number as u32).map(|()| loaded()).map_err(told))
 }
 
 impl InSteps for Elf {
-    type State = [u64; entry::ELF_STATE];
     type Loaded = (KernelLoaderResult, Option<PvhNote>);
+    const FORMAT: Format = Format::Elf;
 
-    fn begin(options: sealed::Begin) -> Self::State {
-        lent::elf_begin(options.0)
-    }
-
-    fn step(state: &mut Self::State, lent: sealed::Lent) -> sealed::Stepped<Self::Loaded> {
-        let told = lent::elf_step(lent.guest, lent.image, state, lent.budget)?;
-        let [copied, answers, number, values @ ..] = told;
-        let answer = answer(answers, number, || elf::by_values(values), told::by_elf);
-        Ok(Step { copied, answer })
+    fn loaded(loaded: (KernelLoaderResult, Option<PvhNote>)) -> Self::Loaded {
+        loaded
     }
 }
 
 impl InSteps for BzImage {
-    type State = lent::BzImageState;
     type Loaded = KernelLoaderResult;
+    const FORMAT: Format = Format::BzImage;
 
-    fn begin(options: sealed::Begin) -> Self::State {
-        lent::bzimage_begin(options.0)
-    }
-
-    fn step(state: &mut Self::State, lent: sealed::Lent) -> sealed::Stepped<Self::Loaded> {
-        let told = lent::bzimage_step(lent.guest, lent.image, state, lent.budget)?;
-        let [copied, answers, number, kernel_load, kernel_end] = told;
-        let loaded = lent::BzImageLoaded {
-            kernel_load,
-            kernel_end,
-            setup_header: state.setup_header,
-        };
-        let loaded = || bzimage::by_values(loaded);
-        let answer = answer(answers, number, loaded, told::by_bzimage);
-        Ok(Step { copied, answer })
+    fn loaded((kernel, _): (KernelLoaderResult, Option<PvhNote>)) -> Self::Loaded {
+        kernel
     }
 }
 
 impl InSteps for arm64::Image {
-    type State = [u64; entry::ARM64_STATE];
     type Loaded = KernelLoaderResult;
+    const FORMAT: Format = Format::Arm64;
 
-    fn begin(options: sealed::Begin) -> Self::State {
-        lent::arm64_begin(options.0)
-    }
-
-    fn step(state: &mut Self::State, lent: sealed::Lent) -> sealed::Stepped<Self::Loaded> {
-        let told = lent::arm64_step(lent.guest, lent.image, state, lent.budget)?;
-        let [copied, answers, number, load, end] = told;
-        let loaded = || arm64::by_values([load, end]);
-        let answer = answer(answers, number, loaded, told::by_arm64);
-        Ok(Step { copied, answer })
+    fn loaded((kernel, _): (KernelLoaderResult, Option<PvhNote>)) -> Self::Loaded {
+        kernel
     }
 }
 
-/// A load between two steps. It is a value of its own: a clone goes on from the same place.
+/// A load between two steps. It is a value of its own: a clone goes on from the same state.
 #[derive(Clone, Debug, PartialEq, Eq)]
 pub struct Steps<L: InSteps> {
-    state: L::State,
+    // written by the library only
+    state: [u64; STATE_NUMBERS],
+    loader: PhantomData<L>,
 }
 
 /// A load of an ELF image between two steps.
@@ -180,22 +128,28 @@ pub type BzImageSteps = Steps<BzImage>;
 pub type Arm64Steps = Steps<arm64::Image>;
 
 impl<L: InSteps> Steps<L> {
-    /// A load that is not begun.
+    /// A load that is not started.
     pub fn new(
         kernel_offset: Option<GuestAddress>,
         highmem_start_address: Option<GuestAddress>,
     ) -> Self {
-        let options = Options {
-            offset: kernel_offset,
-            highmem: highmem_start_address,
-        };
-        Steps {
-            state: L::begin(sealed::Begin(options)),
-        }
+        let Options {
+            flags,
+            offset,
+            highmem,
+        } = Options::new(kernel_offset, highmem_start_address);
+        let mut state = [0; STATE_NUMBERS];
+        let format = L::FORMAT as u32;
+        let answer = call!(rekusoyen_raw_begin(mut &mut state, format, flags, offset, highmem));
+        debug_assert_eq!(answer, 0, "a state of the right size is not refused");
+        let loader = PhantomData;
+        Steps { state, loader }
     }
 
-    /// Copies exactly the smaller of the budget and what is still to be written. The first step looks at all headers and notes before it copies
-    /// anything; an image that is refused is answered there, and nothing is copied. Steps after the answer repeat it and copy nothing.
+    /// Copies exactly the smaller of the budget and what is still to be written. The first step looks at all headers
+    /// and notes before it copies anything; an image that is refused is answered there, and nothing is copied. Steps
+    /// after the answer repeat it and copy nothing. The setup header of a bzImage is read from the image of the step
+    /// that returns it.
     pub fn step(
         &mut self,
         guest: &mut [u8],
@@ -203,16 +157,23 @@ impl<L: InSteps> Steps<L> {
         kernel_image: &[u8],
         budget: u64,
     ) -> std::result::Result<Step<L::Loaded>, StepError> {
-        let lent = sealed::Lent {
-            guest: Guest::over(guest, map),
-            image: kernel_image,
-            budget,
-        };
-        L::step(&mut self.state, lent).map_err(StepError::of)
+        let mut step = [0; STEP_NUMBERS];
+        answered(call!(rekusoyen_raw_step(
+            mut guest, in map.numbers(), in kernel_image, mut &mut self.state, budget, mut &mut step
+        )))
+        .map_err(StepError::of)?;
+        let [copied, is_answered, answer, kernel @ ..] = step;
+        let loaded = || L::loaded(L::FORMAT.loaded(kernel_image, kernel));
+        let answer = (is_answered == 1).then(|| {
+            let accepted = answered(answer as u32).map(|()| loaded());
+            accepted.map_err(|refusal| errors::of(L::FORMAT, refusal))
+        });
+        Ok(Step { copied, answer })
     }
 }
 
-/// The steps of one load, all with one budget: an iterator that ends behind the step that answers, or behind a call that was refused.
+/// The steps of one load, all with one budget: an iterator that ends after the step that answers, or after a call
+/// that was refused.
 #[derive(Debug)]
 pub struct Portions<'a, L: InSteps> {
     load: Steps<L>,
@@ -224,7 +185,7 @@ pub struct Portions<'a, L: InSteps> {
 }
 
 impl<'a, L: InSteps> Portions<'a, L> {
-    /// The steps of a load that is not begun, each with this budget.
+    /// The steps of a load that is not started, each with this budget.
     pub fn new(
         load: Steps<L>,
         guest: &'a mut [u8],

@@ -1,12 +1,8 @@
 //! Jobs of the desk program: good ones, and tables that break a rule by one number, one row or one byte.
 
 use crate::generate::{bzimage, elf, steps, text};
-use crate::question::Job;
 use crate::rng::Rng;
 use second::desk::MOST;
-
-/// The lengths of guest memory: the desk program's own, and small ones, in which an image or a line may have no room.
-const GUESTS: [usize; 4] = [16_384, 64, 48, 0];
 
 /// A body and its kind.
 pub type Body = (u32, Vec<u8>);
@@ -25,7 +21,7 @@ pub fn job(bodies: &[Body]) -> Vec<u8> {
     bytes
 }
 
-pub fn question(rng: &mut Rng) -> Job {
+pub fn question(rng: &mut Rng) -> Vec<u8> {
     let mut bodies = vec![image(rng)];
     if rng.one_in(2) {
         let place = rng.length(0, 1);
@@ -41,11 +37,7 @@ pub fn question(rng: &mut Rng) -> Job {
     if rng.one_in(3) {
         spoil(rng, &mut bytes);
     }
-    let guest = rng.pick(&GUESTS);
-    Job {
-        guest: vec![rng.byte(); guest],
-        bytes,
-    }
+    bytes
 }
 
 fn image(rng: &mut Rng) -> Body {

@@ -1,6 +1,5 @@
 //! Lines whose words are read back, biased to quotes, runs of spaces and lists that just fit.
 
-use crate::encode::MOST_PLACES;
 use crate::generate::line;
 use crate::question::Words;
 use crate::rng::Rng;
@@ -16,7 +15,6 @@ pub fn question(rng: &mut Rng) -> Words {
         2 | 3 => count + rng.length(1, 3) as u32,
         _ => count,
     });
-    let places = places.map(|count| count.min(MOST_PLACES));
     Words { places, text }
 }
 
@@ -89,7 +87,7 @@ mod tests {
         assert!(long
             .clone()
             .any(|asked| asked.text.iter().all(|byte| *byte == b'"')));
-        assert!(long.any(|asked| asked.places == [MOST_PLACES; 3]
+        assert!(long.any(|asked| asked.places == [longest as u32 / 2; 3]
             && words::words(&asked.text).is_ok_and(|words| words.len() == longest / 2)));
     }
 }

@@ -7,7 +7,7 @@ mod bzimage;
 pub mod elf;
 mod line;
 
-use rekusoyen::Refusal;
+use rekusoyen::{loader, Refusal};
 
 use crate::arguments::{Format, Load};
 use crate::load::Refused;
@@ -84,15 +84,14 @@ impl Looks {
             (b"\xfd7zXZ\0", "an xz file"),
             (b"\x28\xb5\x2f\xfd", "a zstd file"),
         ];
-        if image.starts_with(b"\x7fELF") {
-            Looks::Elf
-        } else if image.get(0x202..0x206) == Some(b"HdrS") {
-            Looks::BzImage
-        } else if image.get(56..60) == Some(b"ARM\x64") {
-            Looks::Arm64
-        } else {
-            let found = packed.iter().find(|row| image.starts_with(row.0));
-            found.map_or(Looks::Unknown, |row| Looks::Packed(row.1))
+        match loader::Format::of(image) {
+            Some(loader::Format::Elf) => Looks::Elf,
+            Some(loader::Format::BzImage) => Looks::BzImage,
+            Some(loader::Format::Arm64) => Looks::Arm64,
+            None => {
+                let found = packed.iter().find(|row| image.starts_with(row.0));
+                found.map_or(Looks::Unknown, |row| Looks::Packed(row.1))
+            }
         }
     }
 

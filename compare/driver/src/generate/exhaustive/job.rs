@@ -1,26 +1,15 @@
-//! Every small table of a job: each count, kind, place and size at its limit and one beside it, every length of a job, and lines that end at
-//! and around the end of guest memory.
+//! Every small table of a job: each count, kind, place and size at its limit and one off it, every length of a job,
+//! and images and lines that end at and around the end of guest memory.
 
-use crate::examples;
+use crate::desk::GUEST;
+use crate::examples::{self, put};
 use crate::generate::job::{job, Body};
-use crate::question::Job;
 use second::desk::MOST;
 
-/// The guest of most of them: the small ELF image ends at 24, and the line behind it has room for 8 bytes.
-const GUEST: usize = 32;
-
-pub fn jobs() -> impl Iterator<Item = Job> {
+pub fn jobs() -> impl Iterator<Item = Vec<u8>> {
     let tables = one_row().chain(two_rows());
     let jobs = tables.chain(each_length()).chain(long_jobs());
-    let jobs = jobs.chain(lines()).map(|bytes| over(GUEST, bytes));
-    jobs.chain(guests())
-}
-
-fn over(guest: usize, bytes: Vec<u8>) -> Job {
-    Job {
-        guest: vec![0xe7; guest],
-        bytes,
-    }
+    jobs.chain(lines()).chain(images())
 }
 
 fn elf() -> Body {
@@ -103,15 +92,23 @@ fn long_jobs() -> impl Iterator<Item = Vec<u8>> {
     })
 }
 
-/// Lines of every length around the room behind the kernel and around the capacity.
-fn lines() -> impl Iterator<Item = Vec<u8>> {
-    let lengths = (0..10).chain(4094..4098);
-    lengths.map(|length| job(&[elf(), line(&vec![b'a'; length])]))
+/// The small image with its 3 bytes, and 8 bytes of memory, at another address.
+fn elf_at(address: usize) -> Body {
+    let (kind, mut image) = elf();
+    put(&mut image, 88, &(address as u64).to_le_bytes());
+    (kind, image)
 }
 
-/// The same job over guests in which the image, or the line, has no room.
-fn guests() -> impl Iterator<Item = Job> {
-    let bytes = job(&[line(b"a"), elf()]);
-    let lengths = (0..28).chain([MOST]);
-    lengths.map(move |length| over(length, bytes.clone()))
+/// Lines of every length around the room of 8 bytes after the kernel, and around the capacity.
+fn lines() -> impl Iterator<Item = Vec<u8>> {
+    let near_end = (0..10).map(|length| (elf_at(GUEST - 16), length));
+    let long = (4094..4098).map(|length| (elf(), length));
+    let texts = near_end.chain(long);
+    texts.map(|(image, length)| job(&[image, line(&vec![b'a'; length])]))
+}
+
+/// The image at every address around the last at which it has room, without and with a line.
+fn images() -> impl Iterator<Item = Vec<u8>> {
+    let images = (GUEST - 12..GUEST + 2).map(elf_at);
+    images.flat_map(|image| [job(&[image.clone()]), job(&[line(b"a"), image])])
 }

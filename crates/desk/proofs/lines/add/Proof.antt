@@ -5,13 +5,19 @@ use Rattle.desk.proofs.lines.add.Statement.{statement}
 use Rattle.desk.proofs.lines.add.Tie as tie
 
 returns : tie.Need-returns
-returns c = let args = c .before .before .before .before .before .args in add-after-refusal (args .text .now) (args .guest .now) (c .before .said .given .1)
+returns c = let args = c .before .before .before .before .before .args in add-after-refusal (args .text .now) (args .guest .now) (c .before .answer .given .1)
 
 returns-2 : tie.Need-returns-2
-returns-2 c = let args = c .before .before .before .before .before .before .before .before .before .before .before .before .args in add-line (args .text .now) (args .guest .now) (c .before .before .before .before .before .before .before .before .said2 .given .0 .0) (c .before .before .before .before .before .before .before .before .said2 .given .1) (c .before .before .before .before .before .put .ensures) (line-fails (c .before .before .before .before .before .before .before .before .said2 .given .0 .0) (c .before .answer .given .1))
+returns-2 c =
+    let args = c .before .before .before .before .before .before .before .before .before .before .before .before .args in
+    let kernel = c .before .before .before .before .before .before .before .before .answer2 .given .0 .0 in
+    add-line (args .text .now) (args .guest .now) kernel (c .before .before .before .before .before .before .before .before .answer2 .given .1) (c .before .before .before .before .before .put .ensures) (line-fails kernel (c .before .line .given .1))
 
 returns-3 : tie.Need-returns-3
-returns-3 c = let args = c .before .before .before .before .before .before .before .before .before .before .before .args in add-line (args .text .now) (args .guest .now) (c .before .before .before .before .before .before .before .said2 .given .0 .0) (c .before .before .before .before .before .before .before .said2 .given .1) (c .before .before .before .before .put .ensures) (line-stands (c .before .before .before .before .before .before .before .said2 .given .0 .0) (c .enum-told .given .1))
+returns-3 c =
+    let args = c .before .before .before .before .before .before .before .before .before .before .before .args in
+    let kernel = c .before .before .before .before .before .before .before .answer2 .given .0 .0 in
+    add-line (args .text .now) (args .guest .now) kernel (c .before .before .before .before .before .before .before .answer2 .given .1) (c .before .before .before .before .put .ensures) (line-stands kernel (c .enum-told .given .1))
 
 pub add-spec : {M : Type 1} → statement M
 add-spec =

@@ -1,29 +1,22 @@
--- `telling::put_pvh`: by cases, as the definition goes.
+-- `telling::put_pvh`: by the format.
 use borrow.Author.Needs.{needs}
-use Rattle.desk.proofs.PrintingLaws.{pvh-untold, pvh-ignored, pvh-none, pvh-at}
+use Rattle.desk.proofs.PrintingLaws.{pvh-elf, pvh-bzimage, pvh-arm64}
 use Rattle.desk.proofs.telling.put_pvh.Statement.{statement}
 use Rattle.desk.proofs.telling.put_pvh.Tie as tie
 
 returns : tie.Need-returns
-returns c = pvh-untold (c .before .before .before .before .before .enum-told .given .1) (c .before .before .put .ensures)
+returns c = pvh-elf (c .before .before .before .before .before .before .before .args .pvh) (c .before .before .before .before .enum-told .given .1) (c .before .before .put-pvh-text .ensures)
 
 returns-2 : tie.Need-returns-2
-returns-2 c = pvh-ignored (c .before .before .before .before .before .enum-told2 .given .1) (c .before .before .put2 .ensures)
+returns-2 c = pvh-bzimage (c .before .before .before .before .before .before .before .before .args .pvh) (c .before .before .before .before .before .enum-told2 .given .1) (c .before .before .put .ensures)
 
 returns-3 : tie.Need-returns-3
-returns-3 c = pvh-none (c .before .before .before .before .before .enum-told3 .given .1) (c .before .before .put3 .ensures)
-
-returns-4 : tie.Need-returns-4
-returns-4 c = pvh-at (c .before .before .before .before .before .before .pvh .given .1) (c .before .before .put-line .ensures)
+returns-3 c = pvh-arm64 (c .before .before .before .before .before .before .before .before .args .pvh) (c .before .before .before .before .before .enum-told3 .given .1) (c .before .before .put2 .ensures)
 
 pub put-pvh-spec : {M : Type 1} → statement M
 put-pvh-spec =
     tie.close
     (tie.spec
-    (λ c. search needs)
-    (λ c. search needs)
-    (λ c κs. search needs)
-    (λ c. search needs)
     (λ c. search needs)
     (λ c κs. search needs)
     (λ c. search needs)
@@ -37,6 +30,4 @@ put-pvh-spec =
     (λ c. search needs)
     returns-2
     (λ c. search needs)
-    returns-3
-    (λ c. search needs)
-    returns-4)
+    returns-3)

@@ -1,14 +1,39 @@
-//! The desk program itself, run once for each of these jobs: every way to print and every way to break a job.
+//! The desk program, started once for each job; and the jobs that it is always asked: every way to print and every
+//! way to break a job.
 
+use crate::answer::Answer;
+use crate::backend::{Backend, Reply};
 use crate::examples;
 use crate::generate::job::{job, Body};
+use crate::question::Question;
 use second::desk;
 use second::Rules;
 use std::io::{Read, Result, Write};
 use std::process::{Command, Stdio};
 
-/// Guest memory of the desk program.
-const GUEST: usize = 16_384;
+/// How many bytes of guest memory the desk program has.
+pub const GUEST: usize = 16_384;
+
+/// The program, by its name and arguments.
+pub struct Desk {
+    pub program: Vec<String>,
+}
+
+impl Backend for Desk {
+    fn name(&self) -> &str {
+        "desk"
+    }
+
+    fn ask(&mut self, question: &Question) -> Reply {
+        let Question::Job(job) = question else {
+            return Reply::Outside;
+        };
+        match printed(&self.program, job) {
+            Ok(text) => Reply::Answer(Answer::Job { text, guest: None }),
+            Err(error) => Reply::Failed(error.to_string()),
+        }
+    }
+}
 
 fn elf() -> Body {
     (1, examples::small_elf().image)
@@ -25,7 +50,7 @@ fn with(bytes: Vec<u8>, place: usize, number: u32) -> Vec<u8> {
 }
 
 /// What a job is, and its bytes.
-pub fn jobs() -> Vec<(&'static str, Vec<u8>)> {
+fn jobs() -> Vec<(&'static str, Vec<u8>)> {
     let both = || job(&[elf(), line(b"quiet")]);
     let bzimage = (2, examples::small_bzimage().image);
     let mut without_entry = examples::elf_with_notes().image;
