@@ -1,23 +1,22 @@
--- `pages::put_numbers`: the measure is what is left to write.
+-- `printing::hex`: the measure is what is left to write.
 use borrow.Author.Needs.{needs}
 use Prim.Native.Nat.{_-_}
 use lib.ListN.{length}
-use Rattle.probe.proofs.pages.put_numbers.Statement.{statement}
-use Rattle.probe.proofs.pages.put_numbers.Tie as tie
+use Rattle.examples.proofs.printing.hex.Statement.{statement}
+use Rattle.examples.proofs.printing.hex.Tie as tie
 
 abbrev Inv-loop : tie.InvT-loop
-Inv-loop list i₀ i = Unit {0}
+Inv-loop bytes i₀ i = Unit {0}
 
 abbrev μ-loop : tie.MeasureT-loop
-μ-loop list i₀ i = length list - i
+μ-loop bytes i₀ i = length bytes - i
 
-pub put-numbers-spec : {M : Type 1} → statement M
-put-numbers-spec =
+pub hex-spec : {M : Type 1} → statement M
+hex-spec =
     tie.close
     (tie.spec
     Inv-loop
     μ-loop
-    (λ c. search needs)
     (λ c. search needs)
     (λ c. search needs)
     (λ c κs. search needs)
