@@ -53,11 +53,9 @@ fn of(text: &[u8]) -> Cmdline {
     reply.line
 }
 
-fn device(size: u64, address: u64, irq: u32, id: DeviceId) {
-    printing::word(b"device of size");
-    printing::number(size);
-    printing::word(b":");
-    print_reply(empty(80).add_virtio_mmio_device(size, GuestAddress(address), irq, id));
+fn device(what: &[u8], size: u64, id: DeviceId) {
+    printing::word(what);
+    print_reply(empty(80).add_virtio_mmio_device(size, GuestAddress(4096), 5, id));
 }
 
 fn foo_is_bar() -> Cmdline {
@@ -74,10 +72,8 @@ fn equal(what: &[u8], a: &[u8], b: &[u8]) {
     }
 }
 
-fn capacity(capacity: usize) {
-    printing::word(b"line of capacity");
-    printing::number(capacity as u64);
-    printing::word(b":");
+fn capacity(what: &[u8], capacity: usize) {
+    printing::word(what);
     let reply = Cmdline::new(capacity);
     let answer = reply.answer;
     match answer {
@@ -87,16 +83,14 @@ fn capacity(capacity: usize) {
     printing::word(b"\n");
 }
 
-fn load(guest: &mut [u8]) {
-    printing::word(b"line foo=bar at 4, guest memory of");
-    printing::number(guest.len() as u64);
+fn load(what: &[u8], guest: &mut [u8]) {
+    printing::word(what);
     let answer = loader::load_cmdline(
         guest,
         maps::whole(guest.len() as u64),
         GuestAddress(4),
         foo_is_bar(),
     );
-    printing::word(b":");
     match answer {
         loader::Answer::Loaded => printing::word(b" loaded"),
         loader::Answer::Refused(refusal) => printing::refusal(refusal),
@@ -106,12 +100,12 @@ fn load(guest: &mut [u8]) {
 
 fn load_into_12() {
     let mut guest = [0u8; 12];
-    load(&mut guest);
+    load(b"line foo=bar at 4, guest memory of 12 bytes:", &mut guest);
 }
 
 fn load_into_11() {
     let mut guest = [0u8; 11];
-    load(&mut guest);
+    load(b"line foo=bar at 4, guest memory of 11 bytes:", &mut guest);
 }
 
 fn short_output() {
@@ -129,15 +123,15 @@ fn init_only() {
 }
 
 pub fn print() {
-    device(4096, 4096, 5, DeviceId::Number(42));
-    device(4097, 4096, 5, DeviceId::Nothing);
-    device(0, 4096, 5, DeviceId::Number(42));
+    device(b"device 4096, 4096, 5, 42:", 4096, DeviceId::Number(42));
+    device(b"device 4097, 4096, 5:", 4097, DeviceId::Nothing);
+    device(b"device 0, 4096, 5, 42:", 0, DeviceId::Number(42));
     short_output();
     init_only();
     equal(b"lines of init text only:", b" -- y", b" -- z");
     equal(b"lines with boot text:", b"a -- y", b"a -- z");
-    capacity(16384);
-    capacity(16385);
+    capacity(b"line of capacity 16384:", 16384);
+    capacity(b"line of capacity 16385:", 16385);
     load_into_12();
     load_into_11();
 }

@@ -76,12 +76,9 @@ fn elf(image: &mut [u8], in_file: u64, in_memory: u64) {
     load(image, &mut guest, Given::Nothing);
 }
 
-fn elf_of_sizes(in_file: u64, in_memory: u64) {
+fn elf_of_sizes(what: &[u8], in_file: u64, in_memory: u64) {
     let mut image = [0u8; 123];
-    printing::word(b"ELF, one segment, sizes in file and memory");
-    printing::number(in_file);
-    printing::number(in_memory);
-    printing::word(b":");
+    printing::word(what);
     elf(&mut image, in_file, in_memory);
 }
 
@@ -91,12 +88,9 @@ fn arm64(image: &mut [u8], size: u64, base: u64) {
     load(image, &mut guest, Given::At(GuestAddress(base)));
 }
 
-fn arm64_of(size: u64, base: u64) {
+fn arm64_of(what: &[u8], size: u64, base: u64) {
     let mut image = [0u8; 68];
-    printing::word(b"arm64 Image, 68 bytes, text offset 8, image size and base");
-    printing::number(size);
-    printing::number(base);
-    printing::word(b":");
+    printing::word(what);
     arm64(&mut image, size, base);
 }
 
@@ -117,13 +111,17 @@ pub fn print() {
     bzimage_of_no_kernel();
     bzimage_at_an_offset();
     setup_header();
-    elf_of_sizes(3, 8);
-    elf_of_sizes(0, 8);
-    elf_of_sizes(0, 0);
-    elf_of_sizes(3, 2);
-    arm64_of(128, 0);
-    arm64_of(0, 0);
-    arm64_of(128, 1);
+    elf_of_sizes(b"ELF, one segment, 3 bytes in the file, 8 in memory:", 3, 8);
+    elf_of_sizes(b"ELF, one segment, 0 bytes in the file, 8 in memory:", 0, 8);
+    elf_of_sizes(b"ELF, one segment, 0 bytes in the file, 0 in memory:", 0, 0);
+    elf_of_sizes(b"ELF, one segment, 3 bytes in the file, 2 in memory:", 3, 2);
+    arm64_of(
+        b"arm64 Image, 68 bytes, text offset 8, image size 128:",
+        128,
+        0,
+    );
+    arm64_of(b"arm64 Image, 68 bytes, text offset 8, image size 0:", 0, 0);
+    arm64_of(b"arm64 Image, 68 bytes, text offset 8, base 1:", 128, 1);
     arm64_too_long();
     arm64_too_short();
 }

@@ -61,27 +61,26 @@ fn write_and_change(guest: &mut [u8], at: u64) {
     printing::word(b"\n");
 }
 
-fn written(modules: u64) {
+fn written(what: &[u8], modules: u64) {
     let mut guest = [0u8; 112];
-    printing::word(b"start block at 0, modules at");
-    printing::number(modules);
-    printing::word(b":");
+    printing::word(what);
     write_and_check(&mut guest, modules);
 }
 
-fn changed(at: u64) {
+fn changed(what: &[u8], at: u64) {
     let mut guest = [0u8; 112];
-    printing::word(b"start block with byte");
-    printing::number(at);
-    printing::word(b" changed:");
+    printing::word(what);
     write_and_change(&mut guest, at);
 }
 
 pub fn print() {
-    written(56);
-    written(55);
-    written(112);
-    changed(0);
-    changed(111);
-    changed(8);
+    written(b"start block, modules right after it:", 56);
+    written(b"start block, modules over its last byte:", 55);
+    written(b"start block, modules past guest memory:", 112);
+    changed(b"start block, magic changed:", 0);
+    changed(
+        b"start block, a reserved byte of the memory map changed:",
+        111,
+    );
+    changed(b"start block, flags changed:", 8);
 }
