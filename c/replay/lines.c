@@ -85,32 +85,31 @@ static size_t make_call(struct bytes call)
     return sizes[which];
 }
 
-const char *answer_line(struct bytes calls)
+int answer_line(struct bytes calls)
 {
     say("line");
     rekusoyen_line_new(line, sizeof line, 1);
     rekusoyen_line_new(kept, sizeof kept, 1);
     for (size_t used; calls.size > 0; calls = slice(calls, used, calls.size)) {
         used = make_call(calls);
-        if (used == 0) {
-            say(" malformed");
-            break;
-        }
+        if (used == 0)
+            return 0;
     }
-    return NULL;
+    return 1;
 }
 
-const char *answer_line_load(const struct map *over, struct bytes body)
+int answer_line_load(const struct map *over, struct bytes body)
 {
     const size_t size = number(body, 8, 4);
     const struct bytes before = slice(body, 12, size);
     if (body.size < 12 + size || size > LONGEST_GUEST)
-        return "the length of the guest";
+        return 0;
     const struct map map = over != NULL ? *over : whole(size);
-    answer_line(slice(body, 12 + size, body.size));
+    if (!answer_line(slice(body, 12 + size, body.size)))
+        return 0;
     uint8_t *const guest = guest_of(before);
     say(" load");
     say_call(rekusoyen_line_load(guest, size, map.numbers, map.count, number(body, 0, 8), line, sizeof line));
     say_guest(before.at, guest, size);
-    return NULL;
+    return 1;
 }

@@ -39,12 +39,12 @@ void say_load(uint32_t format, uint32_t answer, const struct rekusoyen_kernel *k
     }
 }
 
-const char *answer_load(uint32_t format, const struct map *over, struct bytes body)
+int answer_load(uint32_t format, const struct map *over, struct bytes body)
 {
     struct load load;
     struct rekusoyen_kernel kernel;
     if (!read_load(body, &load) || load.rest.size != 0)
-        return "the lengths of image and guest";
+        return 0;
     const struct map map = over != NULL ? *over : whole(load.before.size);
     uint8_t *const guest = guest_of(load.before);
     const uint32_t answer = rekusoyen_load(
@@ -52,22 +52,22 @@ const char *answer_load(uint32_t format, const struct map *over, struct bytes bo
         load.offset, load.highmem, &kernel);
     say_load(format, answer, &kernel, load.image);
     say_guest(load.before.at, guest, load.before.size);
-    return NULL;
+    return 1;
 }
 
-const char *answer_note(struct bytes body)
+int answer_note(struct bytes body)
 {
     struct rekusoyen_note note;
     if (body.size < 16)
-        return "no place and size";
+        return 0;
     const struct bytes image = slice(body, 16, body.size);
     const uint32_t answer = rekusoyen_elf_note(image.at, image.size, number(body, 0, 8), number(body, 8, 8), &note);
     say("note");
     say_answer(answer);
     if (answer != REKUSOYEN_ACCEPTED)
-        return NULL;
+        return 1;
     say_pvh(note.pvh, note.pvh_entry, note.pvh_offset, note.pvh_size);
     say(" headers");
     say_number(note.headers);
-    return NULL;
+    return 1;
 }

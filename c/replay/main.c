@@ -5,15 +5,15 @@
 
 #define LONGEST_BODY ((size_t)2162688)
 
-/* A question by its kind, whose map is read if it has one. */
-static const char *answer(struct bytes body)
+/* Answers a question by its kind, and reads its map if it has one. Returns whether it parses. */
+static int answer(struct bytes body)
 {
     const uint64_t kind = number(body, 0, 1);
     struct bytes rest = slice(body, 1, body.size);
     struct map map = {{0}, number(rest, 0, 1)};
     if ((kind >= 6 && kind <= 8) || (kind >= 12 && kind <= 17)) {
         if (rest.size < 1 + 8 * map.count)
-            return "the map";
+            return 0;
         for (size_t i = 0; i < map.count; i++)
             map.numbers[i] = number(rest, 1 + 8 * i, 8);
         rest = slice(rest, 1 + 8 * map.count, rest.size);
@@ -36,19 +36,8 @@ static const char *answer(struct bytes body)
     case 15: return answer_steps(REKUSOYEN_BZIMAGE, &map, rest);
     case 16: return answer_load(REKUSOYEN_ARM64, &map, rest);
     case 17: return answer_steps(REKUSOYEN_ARM64, &map, rest);
-    default: return "no such kind";
+    default: return 0;
     }
-}
-
-/* Reads the body of a question, of which a part is kept if it is too long; returns whether the input has all of it. */
-static int read_body(uint8_t *body, size_t size)
-{
-    for (size_t got; size > 0; size -= got) {
-        got = fread(body, 1, size < LONGEST_BODY ? size : LONGEST_BODY, stdin);
-        if (got == 0)
-            return 0;
-    }
-    return 1;
 }
 
 int main(void)
@@ -57,11 +46,11 @@ int main(void)
     uint8_t head[4];
     for (size_t got; (got = fread(head, 1, sizeof head, stdin)) > 0;) {
         const size_t size = number((struct bytes){head, got}, 0, 4);
-        const char *wrong = "cut short";
-        if (got == sizeof head && read_body(body, size))
-            wrong = size > LONGEST_BODY ? "too long" : answer((struct bytes){body, size});
-        if (wrong != NULL)
-            printf("malformed: %s", wrong);
+        if (got != sizeof head || size > LONGEST_BODY || fread(body, 1, size, stdin) != size ||
+            !answer((struct bytes){body, size})) {
+            fputs("replay: a question does not parse\n", stderr);
+            return 1;
+        }
         putchar('\n');
     }
     return ferror(stdin) || ferror(stdout) || fflush(stdout) != 0;

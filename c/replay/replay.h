@@ -41,18 +41,18 @@ uint8_t *guest_of(struct bytes content);
 uint8_t *filled(uint8_t byte, size_t size);
 
 /*
- * The answer to a question, of its kind and its body after the kind and the map. Each returns NULL, or what is wrong
- * with a body that does not parse, and has then answered nothing. A map of NULL is that of memory without holes.
+ * The answer to a question, of its kind and its body after the kind and the map. Each returns whether the body
+ * parses. A map of NULL is that of memory without holes.
  */
-const char *answer_load(uint32_t format, const struct map *map, struct bytes body);
-const char *answer_note(struct bytes body);
-const char *answer_steps(uint32_t format, const struct map *map, struct bytes body);
-const char *answer_line(struct bytes body);
-const char *answer_line_load(const struct map *map, struct bytes body);
-const char *answer_words(struct bytes body);
-const char *answer_page_build(struct bytes body);
-const char *answer_page_read(struct bytes body);
-const char *answer_start_write(const struct map *map, struct bytes body);
-const char *answer_start_check(const struct map *map, struct bytes body);
+int answer_load(uint32_t format, const struct map *map, struct bytes body);
+int answer_note(struct bytes body);
+int answer_steps(uint32_t format, const struct map *map, struct bytes body);
+int answer_line(struct bytes body);
+int answer_line_load(const struct map *map, struct bytes body);
+int answer_words(struct bytes body);
+int answer_page_build(struct bytes body);
+int answer_page_read(struct bytes body);
+int answer_start_write(const struct map *map, struct bytes body);
+int answer_start_check(const struct map *map, struct bytes body);
 
 #endif

@@ -4,15 +4,13 @@
 /* How many bytes a call of a step has. */
 #define CALL 21
 
-const char *answer_steps(uint32_t format, const struct map *map, struct bytes body)
+int answer_steps(uint32_t format, const struct map *map, struct bytes body)
 {
     struct load load;
     struct rekusoyen_state state;
     struct bytes first = {NULL, 0}; /* the image of the first step, which the load looks at */
-    if (!read_load(body, &load))
-        return "the lengths of image and guest";
-    if (load.rest.size % CALL != 0)
-        return "the calls";
+    if (!read_load(body, &load) || load.rest.size % CALL != 0)
+        return 0;
     uint8_t *const guest = guest_of(load.before);
     say("steps");
     rekusoyen_begin(&state, format, load.flags, load.offset, load.highmem);
@@ -37,5 +35,5 @@ const char *answer_steps(uint32_t format, const struct map *map, struct bytes bo
         }
     }
     say_guest(load.before.at, guest, load.before.size);
-    return NULL;
+    return 1;
 }

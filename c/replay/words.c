@@ -4,13 +4,13 @@
 #define MOST_WORDS 8192
 #define UNTOUCHED 0xe7e7e7e7e7e7e7e7
 
-const char *answer_words(struct bytes body)
+int answer_words(struct bytes body)
 {
     static uint64_t lists[3][MOST_WORDS];
     const size_t sizes[] = {number(body, 0, 4), number(body, 4, 4), number(body, 8, 4)};
     const struct bytes text = slice(body, 12, body.size);
     if (body.size < 12 || sizes[0] > MOST_WORDS || sizes[1] > MOST_WORDS || sizes[2] > MOST_WORDS)
-        return "the places of the lists";
+        return 0;
     for (size_t i = 0; i < 3 * MOST_WORDS; i++)
         lists[i / MOST_WORDS][i % MOST_WORDS] = UNTOUCHED;
     uint64_t count = 0, words = 0;
@@ -29,5 +29,5 @@ const char *answer_words(struct bytes body)
             say(" spoilt");
             break;
         }
-    return NULL;
+    return 1;
 }

@@ -5,6 +5,7 @@ pub mod HolesUntouched
 pub mod MoreMemory
 pub mod WholeSlice
 pub mod InPortions
+pub mod WholeStep
 pub mod ByParts
 pub mod Footprint
 pub mod Outcomes

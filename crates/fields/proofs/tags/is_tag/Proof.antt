@@ -21,15 +21,16 @@ returns : tie.Need-returns Inv-loop μ-loop
 returns c =
     let args = c .before .before .before .before .before .before .before .before .args in
     let at-turn = c .before .before .before .before .before .loop in
-    let read = le-one (args .s .now) (args .at + at-turn .i) in
-    sym (tag-wrong (args .tag .now) (args .s .now) (args .at) (at-turn .i) (omega arith) (λ e. c .if1 .taken (cc))) ∙ at-turn .inv .1
+    let byte = c .before .before .before .byte-at .ensures .value ∙ le-one (args .s .now) (args .at + at-turn .i) in
+    sym (tag-wrong (args .tag .now) (args .s .now) (args .at) (at-turn .i) (omega arith) (λ e. c .if1 .taken (byte ∙ e ∙ sym (c .before .wide .ensures)))) ∙ at-turn .inv .1
 
 loop-again : tie.Need-loop-again Inv-loop μ-loop
 loop-again c =
     let args = c .before .before .before .before .before .before .before .before .args in
     let at-turn = c .before .before .before .before .before .loop in
-    let read = le-one (args .s .now) (args .at + at-turn .i) in
-    (omega arith, rw (add-one, add-suc) (tag-next (args .tag .now) (args .s .now) (args .at) (at-turn .i) (omega arith) (cc) ∙ at-turn .inv .1))
+    let byte = c .before .before .before .byte-at .ensures .value ∙ le-one (args .s .now) (args .at + at-turn .i) in
+    let same = sym byte ∙ c .if1 .left ∙ c .before .wide .ensures in
+    (omega arith, rw (add-one, add-suc) (tag-next (args .tag .now) (args .s .now) (args .at) (at-turn .i) (omega arith) same ∙ at-turn .inv .1))
 
 returns-2 : tie.Need-returns-2 Inv-loop μ-loop
 returns-2 c =
