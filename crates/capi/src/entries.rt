@@ -18,7 +18,8 @@ use guest::sizes;
 use loads::formats;
 use loads::formats::Kind;
 
-// Loads an image into guest memory, whose map is start, size, start, size .. `kernel` has 6 places: the load address, the kernel's end, PVH (0 ignored,
+// Loads an image into guest memory, whose map is start, size, start, size .. `kernel` has 6 places: the load address,
+// the kernel's end, PVH (0 ignored,
 // 1 not present, 2 present), the PVH address, and the offset and the size of the descriptor of the note that gives it.
 #[no_mangle]
 pub extern "C" fn rekusoyen_raw_load(
@@ -55,7 +56,8 @@ fn memory_by(size: u64, map: &[u64]) -> Memory
     }
 }
 
-// What that load answers over guest memory of this size with this map. `plan` has 7 places: the six of a load, then the number of parts.
+// What that load answers over guest memory of this size with this map. `plan` has 7 places: the six of a load, then
+// the number of parts.
 #[no_mangle]
 pub extern "C" fn rekusoyen_raw_plan(
     memory_size: u64,
@@ -83,7 +85,8 @@ pub extern "C" fn rekusoyen_raw_plan(
     }
 }
 
-// A part of that load, by its number. `part` has 3 places: the guest address, the offset in the image and the size; all 0 if the part has no
+// A part of that load, by its number. `part` has 3 places: the guest address, the offset in the image and the size;
+// all 0 if the part has no
 // bytes, and from the number of parts on.
 #[no_mangle]
 pub extern "C" fn rekusoyen_raw_part(

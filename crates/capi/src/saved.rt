@@ -1,4 +1,5 @@
-// The state of a load in steps, in a list of 50 numbers: how far the load is, its format, then the seven numbers of its answer.
+// The state of a load in steps, in a list of 50 numbers: how far the load is, its format, then the seven numbers of
+// its answer.
 ghost use mathlib.Core.Path.{_≡_};
 ghost use Rattle.capi.specs.States.{answerNumbers, pvhOf, answerFrom, answerIn, withState, stateIn, stepGate, StepTells};
 use crate::options;

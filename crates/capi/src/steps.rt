@@ -1,4 +1,5 @@
-// Loads in steps. The state of a load is in numbers that the caller keeps; what no call wrote is refused, never trusted.
+// Loads in steps. The state of a load is in numbers that the caller keeps; what no call wrote is refused, never
+// trusted.
 ghost use Rattle.guest.specs.Maps.{mapOf};
 ghost use Rattle.capi.specs.Loads.{callGate};
 ghost use Rattle.capi.specs.Options.{optionsOf};
@@ -32,8 +33,10 @@ pub extern "C" fn rekusoyen_raw_begin(
     }
 }
 
-// A step of a load: at most `budget` bytes are copied. It returns 0, or the refusal of a call that was no step, which changes nothing. `step` has 9
-// places: the bytes copied, 1 if the load answers and else 0, the answer's number, and the six values of a load, 0 if it gives none.
+// A step of a load: at most `budget` bytes are copied. It returns 0, or the refusal of a call that was no step, which
+// changes nothing. `step` has 9
+// places: the bytes copied, 1 if the load answers and else 0, the answer's number, and the six values of a load, 0 if
+// it gives none.
 #[no_mangle]
 pub extern "C" fn rekusoyen_raw_step(
     guest: &mut [u8],

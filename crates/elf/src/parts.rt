@@ -1,4 +1,5 @@
-// The plan of a load and its parts: what the load answers, and which image bytes go where. There is one part for each program header, in
+// The plan of a load and its parts: what the load answers, and which image bytes go where. There is one part for each
+// program header, in
 // file order.
 ghost use mathlib.Core.Path.{_≡_};
 ghost use Prim.Native.Nat.{_<_};

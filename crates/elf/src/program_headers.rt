@@ -27,7 +27,8 @@ pub struct ProgramHeader {
     pub p_memsz: u64,
 }
 
-// The program header at a place of the image. Its 56 bytes are a slice of known length, in which no field is tested for its bounds.
+// The program header at a place of the image. Its 56 bytes are a slice of known length, in which no field is tested
+// for its bounds.
 pub(crate) fn read_at(image: &[u8], at: u64) -> ProgramHeader
     requires { ⌜ at + 56 ≤ length (now image) ⌝ }
     ensures { λ r. ⌜ r ≡ headerAt (now (image .entry)) at ⌝ }

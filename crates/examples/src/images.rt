@@ -2,7 +2,8 @@
 use fields::copying;
 use fields::numbers;
 
-// An ELF image of 123 bytes: entry 16, and one program header, three bytes at offset 120 for address 16, eight in memory.
+// An ELF image of 123 bytes: entry 16, and one program header, three bytes at offset 120 for address 16, eight in
+// memory.
 pub fn put_elf(image: &mut [u8]) {
     put_elf_header(image);
     put_segment(image);

@@ -1,4 +1,5 @@
-// Prints worked examples, a line each: `stdout` has what each is to say. Those that are proved are in the crate `cases`.
+// Prints worked examples, a line each: `stdout` has what each is to say. Those that are proved are in the crate
+// `cases`.
 mod images;
 mod lines;
 mod loading;

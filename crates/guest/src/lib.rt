@@ -1,4 +1,5 @@
-// Guest memory, as a slice with a map: its addresses, its size, its ranges, its room, and what is written into it; and what a load answers.
+// Guest memory, as a slice with a map: its addresses, its size, its ranges, its room, and what is written into it;
+// and what a load answers.
 use answers::Refusal;
 
 pub mod addresses;
@@ -51,7 +52,8 @@ pub struct Portion {
     pub all: bool,
 }
 
-// The entry point for the PVH boot protocol, and the descriptor of the note that gives it: its place in the image, and its size as the
+// The entry point for the PVH boot protocol, and the descriptor of the note that gives it: its place in the image,
+// and its size as the
 // note header has it.
 pub struct PvhNote {
     pub entry: GuestAddress,

@@ -31,7 +31,8 @@ pub(crate) fn copy_all(guest: &mut [u8], image: &[u8], options: Options)
     }
 }
 
-// At most `budget` bytes, from part `at` on, `done` bytes of which are copied. The image may be another one than in an earlier step: every part is
+// At most `budget` bytes, from part `at` on, `done` bytes of which are copied. The image may be another one than in
+// an earlier step: every part is
 // tested again.
 pub(crate) fn copy_some(
     guest: &mut [u8],

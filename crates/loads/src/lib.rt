@@ -1,4 +1,5 @@
-// Loads of every format. A format gives its plan and its parts by number; what is done with them is said once, here: the whole load, the load
+// Loads of every format. A format gives its plan and its parts by number; what is done with them is said once, here:
+// the whole load, the load
 // in steps, and the parts for callers that copy by themselves.
 ghost use Rattle.loads.specs.Formats.{LoadSays};
 use guest::Answer;
@@ -32,7 +33,8 @@ pub enum Stage {
     Done,
 }
 
-// A load between two steps: its stage, the first step's image length and memory, and the next part with the bytes of it that are done.
+// A load between two steps: its stage, the first step's image length and memory, and the next part with the bytes of
+// it that are done.
 pub struct Progress {
     pub stage: Stage,
     pub image_len: u64,

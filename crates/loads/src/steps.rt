@@ -15,7 +15,8 @@ use guest::Answer;
 use guest::Map;
 use guest::Memory;
 
-// A load between two steps: how far it is, its answer, which counts once it has started, and the options that it was made with.
+// A load between two steps: how far it is, its answer, which counts once it has started, and the options that it was
+// made with.
 pub struct State {
     pub progress: Progress,
     pub answer: Answer,
