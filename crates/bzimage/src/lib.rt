@@ -8,8 +8,7 @@
 // SPDX-License-Identifier: Apache-2.0 AND BSD-3-Clause
 
 // Big zImage (bzImage) kernels: the plan of a load, made of the image, the memory and the options only, its one part,
-// the kernel, and the
-// setup header that goes with it. The crate `loads` copies the part.
+// the kernel, and the setup header that goes with it. The crate `loads` copies the part.
 pub mod header;
 mod kernel;
 pub mod parts;

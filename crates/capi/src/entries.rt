@@ -19,8 +19,8 @@ use loads::formats;
 use loads::formats::Kind;
 
 // Loads an image into guest memory, whose map is start, size, start, size .. `kernel` has 6 places: the load address,
-// the kernel's end, PVH (0 ignored,
-// 1 not present, 2 present), the PVH address, and the offset and the size of the descriptor of the note that gives it.
+// the kernel's end, PVH (0 ignored, 1 not present, 2 present), the PVH address, and the offset and the size of the
+// descriptor of the note that gives it.
 #[no_mangle]
 pub extern "C" fn rekusoyen_raw_load(
     guest: &mut [u8],
@@ -86,8 +86,7 @@ pub extern "C" fn rekusoyen_raw_plan(
 }
 
 // A part of that load, by its number. `part` has 3 places: the guest address, the offset in the image and the size;
-// all 0 if the part has no
-// bytes, and from the number of parts on.
+// all 0 if the part has no bytes, and from the number of parts on.
 #[no_mangle]
 pub extern "C" fn rekusoyen_raw_part(
     memory_size: u64,

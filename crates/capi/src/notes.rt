@@ -29,8 +29,7 @@ fn put_note(out: &mut [u64], note: ElfNote) -> u32
 }
 
 // The PVH entry that the notes of p_filesz bytes at p_offset give. `note` has 5 places: PVH and its address as for a
-// load, how many note headers were
-// read, and the descriptor's offset and size.
+// load, how many note headers were read, and the descriptor's offset and size.
 #[no_mangle]
 pub extern "C" fn rekusoyen_raw_elf_note(
     image: &[u8],

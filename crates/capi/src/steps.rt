@@ -34,9 +34,8 @@ pub extern "C" fn rekusoyen_raw_begin(
 }
 
 // A step of a load: at most `budget` bytes are copied. It returns 0, or the refusal of a call that was no step, which
-// changes nothing. `step` has 9
-// places: the bytes copied, 1 if the load answers and else 0, the answer's number, and the six values of a load, 0 if
-// it gives none.
+// changes nothing. `step` has 9 places: the bytes copied, 1 if the load answers and else 0, the answer's number, and
+// the six values of a load, 0 if it gives none.
 #[no_mangle]
 pub extern "C" fn rekusoyen_raw_step(
     guest: &mut [u8],

@@ -1,6 +1,5 @@
 // A job of the desk program: an image, with or without a line, after a table of contents. The image is loaded into
-// guest memory that holds zeros,
-// the line is put at the kernel's end, and a text says what came of it.
+// guest memory that holds zeros, the line is put at the kernel's end, and a text says what came of it.
 ghost use mathlib.Core.Path.{_≡_};
 ghost use lib.ListN.{length};
 ghost use Rattle.guest.specs.Loading.{Loads};

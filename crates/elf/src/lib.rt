@@ -9,8 +9,7 @@
 // SPDX-License-Identifier: Apache-2.0 AND BSD-3-Clause
 
 // ELF kernels: the plan of a load, made of the image, the memory and the options only, and its parts: the segments of
-// all program headers,
-// in file order. The crate `loads` copies them if every header has passed.
+// all program headers, in file order. The crate `loads` copies them if every header has passed.
 ghost use mathlib.Core.Path.{_≡_};
 ghost use Rattle.elf.specs.Notes.{publicNote};
 use answers::Refusal;

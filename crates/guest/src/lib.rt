@@ -53,8 +53,7 @@ pub struct Portion {
 }
 
 // The entry point for the PVH boot protocol, and the descriptor of the note that gives it: its place in the image,
-// and its size as the
-// note header has it.
+// and its size as the note header has it.
 pub struct PvhNote {
     pub entry: GuestAddress,
     pub place: ImagePlace,

@@ -32,8 +32,7 @@ pub(crate) fn copy_all(guest: &mut [u8], image: &[u8], options: Options)
 }
 
 // At most `budget` bytes, from part `at` on, `done` bytes of which are copied. The image may be another one than in
-// an earlier step: every part is
-// tested again.
+// an earlier step: every part is tested again.
 pub(crate) fn copy_some(
     guest: &mut [u8],
     memory: Memory,

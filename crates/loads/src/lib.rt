@@ -1,6 +1,5 @@
 // Loads of every format. A format gives its plan and its parts by number; what is done with them is said once, here:
-// the whole load, the load
-// in steps, and the parts for callers that copy by themselves.
+// the whole load, the load in steps, and the parts for callers that copy by themselves.
 ghost use Rattle.loads.specs.Formats.{LoadSays};
 use guest::Answer;
 use guest::Given;
