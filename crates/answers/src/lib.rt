@@ -61,6 +61,9 @@ pub enum Refusal {
     BadPart,
     // guest memory
     BadMap,
+    BadStartMagic,
+    BadStartVersion,
+    BadStartReserved,
     // arm64
     ShortImage,
     BadImageMagic,
@@ -121,6 +124,9 @@ pub fn number(refusal: Refusal) -> u32
         Refusal::BadRow => 75,
         Refusal::BadPart => 76,
         Refusal::BadMap => 77,
+        Refusal::BadStartMagic => 78,
+        Refusal::BadStartVersion => 79,
+        Refusal::BadStartReserved => 80,
         Refusal::ShortImage => 81,
         Refusal::BadImageMagic => 82,
         Refusal::BigEndianImage => 83,

@@ -55,6 +55,9 @@ everyRefusal =
     refusal.BadRow ∷
     refusal.BadPart ∷
     refusal.BadMap ∷
+    refusal.BadStartMagic ∷
+    refusal.BadStartVersion ∷
+    refusal.BadStartReserved ∷
     refusal.ShortImage ∷
     refusal.BadImageMagic ∷
     refusal.BigEndianImage ∷

@@ -215,8 +215,20 @@ unfolding refusalOf firstWith pick
 returns-52 c = ap refusalOf (sym (c .match .keys52))
 
 returns-53 : tie.Need-returns-53
+unfolding refusalOf firstWith pick
+returns-53 c = ap refusalOf (sym (c .match .keys53))
+
+returns-54 : tie.Need-returns-54
+unfolding refusalOf firstWith pick
+returns-54 c = ap refusalOf (sym (c .match .keys54))
+
+returns-55 : tie.Need-returns-55
+unfolding refusalOf firstWith pick
+returns-55 c = ap refusalOf (sym (c .match .keys55))
+
+returns-56 : tie.Need-returns-56
 unfolding refusalOf
-returns-53 c = sym (none-with (c .before .args .n) _ everyRefusal (c .match .rest) .1)
+returns-56 c = sym (none-with (c .before .args .n) _ everyRefusal (c .match .rest) .1)
 
 pub by-number-spec : {M : Type 1} → statement M
 by-number-spec =
@@ -274,4 +286,7 @@ by-number-spec =
     returns-50
     returns-51
     returns-52
-    returns-53)
+    returns-53
+    returns-54
+    returns-55
+    returns-56)
