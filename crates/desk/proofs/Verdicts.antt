@@ -27,14 +27,14 @@ only-bad-job job (later t (later t' (later t'' (here f e)))) = sym e
 
 one-long : (a : Row) (len : ℕ) → onePlaced a len ≡ true → 16 ≤ len
 unfolding onePlaced
-one-long a len e = let size = eqb-true (16 + a .size) len (both-held (eqb (a .place) 16) (eqb (16 + a .size) len) e .1) in omega arith
+one-long a len e = let size = eqb-true (16 + a .size) len (both-held (eqb (a .place .0) 16) (eqb (16 + a .size) len) e .1) in omega arith
 
 two-long : (a b : Row) (len : ℕ) → twoPlaced a b len ≡ true → 28 ≤ len
 unfolding twoPlaced
 two-long a b len e =
     let end = eqb (28 + a .size + b .size) len in
-    let rest = both-held (eqb (a .place) 28) (eqb (b .place) (28 + a .size) && end) e .1 in
-    let size = eqb-true (28 + a .size + b .size) len (both-held (eqb (b .place) (28 + a .size)) end rest .1) in
+    let rest = both-held (eqb (a .place .0) 28) (eqb (b .place .0) (28 + a .size) && end) e .1 in
+    let size = eqb-true (28 + a .size + b .size) len (both-held (eqb (b .place .0) (28 + a .size)) end rest .1) in
     omega arith
 
 pub table-inside : (job : List ℕ) → AllHold (jobTests job) → 4 + 12 * countOf job ≤ length job
