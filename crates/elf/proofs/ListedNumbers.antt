@@ -1,14 +1,21 @@
 -- "Bad input gets its listed number", of an ELF load and of a note walk: a refusal has one of these numbers and no other.
 use Prim.Native.Nat.{ℕ, zero, suc, _+_}
 use mathlib.Core.Path.{_≡_, refl, subst}
+use mathlib.Core.Bool.{true}
 use mathlib.Core.List.{List}
 use native.Mathlib.Omega.{arith}
 use Rattle.answers.specs.Listing.{contains, Listed, rowListed}
+use Rattle.answers.specs.Tests.{Test, askedAll}
+use Rattle.answers.specs.declared.Gate.{Gate}
+use Rattle.answers.specs.declared.Gate.the-variants.{Open, Shut}
 use Rattle.answers.specs.declared.Refusal.{Refusal}
 use Rattle.answers.specs.declared.Refusal.the-variants.{Overflow, ReadNoteHeader, InvalidPvhNote}
 use Rattle.answers.proofs.ListingLaws.{first-listed}
+use Rattle.answers.proofs.TestsLaws.{shut-first}
 use Rattle.answers.proofs.PickLaws.{pick-with}
+use Rattle.guest.specs.Room.{room}
 use Rattle.guest.specs.declared.Given.{Given}
+use Rattle.guest.specs.declared.GuestAddress.{GuestAddress}
 use Rattle.guest.specs.declared.ImagePlace.{ImagePlace}
 use Rattle.guest.specs.declared.Memory.{Memory}
 use Rattle.reading.specs.declared.NoteHeader.{NoteHeader}
@@ -16,7 +23,7 @@ use Rattle.elf.specs.Header.{tests}
 use Rattle.elf.specs.Listing.{elfNumbers, noteNumbers}
 use Rattle.elf.specs.Notes.{skipOf, turnAt, afterTurn, walkFrom, twelves, walkOf, saidOf, entryOf, told, publicNote}
 use Rattle.elf.specs.Pouring.{planOf}
-use Rattle.elf.specs.Survey.{endStep, segmentStep, memoryStep, kindStep, loadStep, saidStep, noteStep, stepOf}
+use Rattle.elf.specs.Survey.{Rooms, segmentTests, memoryTests, endOf, stepBy, loadStep, saidStep, noteStep, stepOf}
 use Rattle.elf.specs.Verdict.{stops, Verdict, by-test, by-header, accepted}
 use Rattle.guest.specs.declared.Answer.{Answer}
 use Rattle.guest.specs.declared.Answer.the-variants.{Refused}
@@ -126,27 +133,18 @@ data ListedStep : Step → Type 0 where
   step-passes : {e : Effect} → ListedStep (Pass e)
   step-stops : {r : Refusal} → Listed elfNumbers r → ListedStep (Stop r)
 
-end-listed : (at size : ℕ) → ListedStep (endStep at size)
-unfolding endStep contains
-end-listed at size = pick-with ListedStep _ (λ _. step-passes) (λ _. step-stops refl)
+row-listed : (ts : List Test) (end : GuestAddress) → rowListed elfNumbers ts ≡ true → ListedStep (stepBy (askedAll Open ts) end)
+row-listed ts end ok = by (askedAll Open ts) refl
+  where
+    by : (gate : Gate) → askedAll Open ts ≡ gate → ListedStep (stepBy gate end)
+    by Open e = step-passes
+    by (Shut r) e = step-stops (first-listed elfNumbers ts ok (shut-first ts r e))
 
-segment-listed : (imageLength : ℕ) (m : Memory) (shift : ℕ) (h : ProgramHeader) → ListedStep (segmentStep imageLength m shift h)
-unfolding segmentStep contains
-segment-listed imageLength m shift h =
-    pick-with ListedStep _
-    (λ _. pick-with ListedStep _ (λ _. pick-with ListedStep _ (λ _. end-listed _ _) (λ _. step-stops refl)) (λ _. step-stops refl))
-    (λ _. step-stops refl)
-
-memory-listed : (shift : ℕ) (h : ProgramHeader) → ListedStep (memoryStep shift h)
-unfolding memoryStep contains
-memory-listed shift h = pick-with ListedStep _ (λ _. end-listed _ _) (λ _. step-stops refl)
-
-load-listed : (imageLength : ℕ) (m : Memory) (shift : ℕ) (h : ProgramHeader) → ListedStep (loadStep imageLength m shift h)
-unfolding loadStep kindStep contains
-load-listed imageLength m shift h =
-    pick-with ListedStep _
-    (λ _. pick-with ListedStep _ (λ _. pick-with ListedStep _ (λ _. step-passes) (λ _. memory-listed shift h)) (λ _. segment-listed imageLength m shift h))
-    (λ _. step-stops refl)
+load-listed : (imageLength : ℕ) (hasRoom : Rooms) (shift : ℕ) (h : ProgramHeader) → ListedStep (loadStep imageLength hasRoom shift h)
+unfolding loadStep rowListed contains
+load-listed imageLength hasRoom shift h =
+    pick-with ListedStep _ (λ _. pick-with ListedStep _ (λ _. step-passes) (λ _. row-listed (memoryTests shift h) (endOf shift h) refl))
+    (λ _. row-listed (segmentTests imageLength hasRoom shift h) (endOf shift h) refl)
 
 elf-has : HasNotes elfNumbers
 unfolding contains
@@ -156,10 +154,10 @@ said-step : {a : NoteAnswer} → ListedAnswer elfNumbers a → ListedStep (saidS
 said-step says = step-passes
 said-step (refuses l) = step-stops l
 
-step-listed : (image : List ℕ) (m : Memory) (offset : Given) (h : ProgramHeader) → ListedStep (stepOf image m offset h)
+step-listed : (image : List ℕ) (hasRoom : Rooms) (offset : Given) (h : ProgramHeader) → ListedStep (stepOf image hasRoom offset h)
 unfolding stepOf noteStep
-step-listed image m offset h =
-    pick-with ListedStep _ (λ _. load-listed _ m _ h)
+step-listed image hasRoom offset h =
+    pick-with ListedStep _ (λ _. load-listed _ hasRoom _ h)
     (λ _. pick-with ListedStep _
     (λ _. pick-with ListedStep _ (λ _. step-passes) (λ _. said-step (entry-listed elfNumbers elf-has image (h .«p_offset») (h .«p_filesz»))))
     (λ _. step-passes))
@@ -175,7 +173,7 @@ unfolding rowListed contains
 by-verdict image m offset highmem {r = r} (by-test {r = s} f) e =
     let same : s ≡ r = cc in subst (Listed elfNumbers) same (first-listed elfNumbers (tests image m offset highmem) refl f)
 by-verdict image m offset highmem {r = r} (by-header {r = s} hold (stops k lt before is)) e =
-    let same : s ≡ r = cc in subst (Listed elfNumbers) same (stop-listed (step-listed image m offset _) is)
+    let same : s ≡ r = cc in subst (Listed elfNumbers) same (stop-listed (step-listed image (room m) offset _) is)
 by-verdict image m offset highmem (accepted {result} hold pass) e = absurd (let w : _≡_ {A = ℕ} 0 1 = cc in omega arith)
 
 pub elf-listed : (image : List ℕ) (m : Memory) (offset highmem : Given) {r : Refusal} → planOf image m offset highmem .answer ≡ Refused r → Listed elfNumbers r

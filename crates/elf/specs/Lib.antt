@@ -14,7 +14,7 @@ pub mod Verdict
 pub mod NoteVerdict
 pub mod Rules
 pub mod ByteRule
-pub mod FirstNote
+pub mod Results
 pub mod Lengthening
 pub mod Footprint
 pub mod WholeSlice

@@ -10,10 +10,15 @@
 
 // The survey: each program header in turn, up to the first that refuses. Nothing is written before all have passed.
 ghost use mathlib.Core.Path.{_≡_};
-ghost use Prim.Native.Nat.{max};
+ghost use Prim.Native.Nat.{_+_, max};
+ghost use Rattle.answers.specs.Tests.{asked, askedAll};
+ghost use Rattle.answers.specs.declared.Gate.the-variants.{Open};
+ghost use Rattle.answers.specs.declared.Refusal.the-variants.{MemoryOverflow};
+ghost use Rattle.fields.specs.Ranges.{fits64};
+ghost use Rattle.guest.specs.Room.{room};
 ghost use Rattle.elf.specs.Header.{e-phoff};
 ghost use Rattle.elf.specs.ProgramHeaders.{HeadersStand};
-ghost use Rattle.elf.specs.Survey.{endStep, segmentStep, memoryStep, kindStep, loadStep, noteStep, stepOf, firstFound, advanced, blank, surveyFrom};
+ghost use Rattle.elf.specs.Survey.{segmentTests, memoryTests, endOf, stepBy, loadStep, noteStep, stepOf, firstFound, advanced, blank, surveyFrom};
 ghost use Rattle.elf.specs.Pouring.{planOf};
 use crate::NoteAnswer;
 use crate::header;
@@ -46,48 +51,54 @@ pub enum Step {
     Stop(Refusal),
 }
 
-// The end of a segment's memory, of this size from an address on.
-fn end_step(at: u64, size: u64) -> Step
-    ensures { λ r. ⌜ r ≡ endStep at size ⌝ }
+// The end of a segment's memory, of this size from an address on, if no test before it refused.
+fn end_step(gate: Gate, at: u64, size: u64) -> Step
+    ensures { λ r. ⌜ r ≡ stepBy (asked gate (fits64 at size) MemoryOverflow) (record { 0 = at + size }) ⌝ }
 {
-    if !ranges::sum_fits(at, size) {
-        return Step::Stop(Refusal::MemoryOverflow);
+    match gate {
+        Gate::Shut(r) => Step::Stop(r),
+        Gate::Open => {
+            if !ranges::sum_fits(at, size) {
+                return Step::Stop(Refusal::MemoryOverflow);
+            }
+            Step::Pass(Effect::EndsAt(GuestAddress(at + size)))
+        }
     }
-    Step::Pass(Effect::EndsAt(GuestAddress(at + size)))
 }
 
 // A loadable segment with file bytes.
 fn segment_step(image_len: u64, memory: Memory, shift: u64, h: ProgramHeader) -> Step
-    ensures { λ r. ⌜ r ≡ segmentStep «image_len» memory shift h ⌝ }
+    ensures { λ r. ⌜ r ≡ stepBy (askedAll Open (segmentTests «image_len» (room memory) shift h)) (endOf shift h) ⌝ }
 {
     let p_paddr = h.p_paddr.0;
+    if h.p_memsz < h.p_filesz {
+        return Step::Stop(Refusal::InvalidProgramHeaderFileSize);
+    }
     if !ranges::sum_fits(shift, p_paddr) {
         return Step::Stop(Refusal::InvalidProgramHeaderAddress);
     }
     let at = shift + p_paddr;
-    if !ranges::within(image_len, h.p_offset.0, h.p_filesz) {
-        return Step::Stop(Refusal::ReadKernelImage);
-    }
-    if !room::has_room(memory, GuestAddress(at), h.p_filesz) {
-        return Step::Stop(Refusal::ReadKernelImage);
-    }
-    end_step(at, h.p_memsz)
+    let in_image = ranges::within(image_len, h.p_offset.0, h.p_filesz);
+    let gate = answers::require(Gate::Open, in_image, Refusal::ReadKernelImage);
+    let has_room = room::has_room(memory, GuestAddress(at), h.p_filesz);
+    let gate = answers::require(gate, has_room, Refusal::ReadKernelImage);
+    end_step(gate, at, h.p_memsz)
 }
 
-// A loadable segment of memory alone: nothing is read or written, and room is not asked.
+// A loadable segment of memory only: nothing is read or written, and no room is needed.
 fn memory_step(shift: u64, h: ProgramHeader) -> Step
-    ensures { λ r. ⌜ r ≡ memoryStep shift h ⌝ }
+    ensures { λ r. ⌜ r ≡ stepBy (askedAll Open (memoryTests shift h)) (endOf shift h) ⌝ }
 {
     let p_paddr = h.p_paddr.0;
     if !ranges::sum_fits(shift, p_paddr) {
         return Step::Stop(Refusal::InvalidProgramHeaderAddress);
     }
-    end_step(shift + p_paddr, h.p_memsz)
+    end_step(Gate::Open, shift + p_paddr, h.p_memsz)
 }
 
-// A loadable segment by its kind: with file bytes, of memory alone, or empty.
-fn kind_step(image_len: u64, memory: Memory, shift: u64, h: ProgramHeader) -> Step
-    ensures { λ r. ⌜ r ≡ kindStep «image_len» memory shift h ⌝ }
+// A loadable segment: with file bytes, of memory only, or empty.
+fn load_step(image_len: u64, memory: Memory, shift: u64, h: ProgramHeader) -> Step
+    ensures { λ r. ⌜ r ≡ loadStep «image_len» (room memory) shift h ⌝ }
 {
     if h.p_filesz == 0 {
         if h.p_memsz == 0 {
@@ -96,16 +107,6 @@ fn kind_step(image_len: u64, memory: Memory, shift: u64, h: ProgramHeader) -> St
         return memory_step(shift, h);
     }
     segment_step(image_len, memory, shift, h)
-}
-
-// A loadable segment. Its file size never exceeds its memory size.
-fn load_step(image_len: u64, memory: Memory, shift: u64, h: ProgramHeader) -> Step
-    ensures { λ r. ⌜ r ≡ loadStep «image_len» memory shift h ⌝ }
-{
-    if h.p_memsz < h.p_filesz {
-        return Step::Stop(Refusal::InvalidProgramHeaderFileSize);
-    }
-    kind_step(image_len, memory, shift, h)
 }
 
 // A note header. With an offset it is not walked.
@@ -126,7 +127,7 @@ fn note_step(image: &[u8], offset: Given, h: ProgramHeader) -> Step
 
 // Any program header.
 fn examine(image: &[u8], memory: Memory, offset: Given, h: ProgramHeader) -> Step
-    ensures { λ r. ⌜ r ≡ stepOf (now (image .entry)) memory offset h ⌝ }
+    ensures { λ r. ⌜ r ≡ stepOf (now (image .entry)) (room memory) offset h ⌝ }
 {
     let p_type = h.p_type;
     if p_type == 1 {
@@ -187,7 +188,7 @@ fn survey(
     n: u64,
 ) -> Answer
     requires { ⌜ («e_phoff» ≡ e-phoff (now image)) × HeadersStand (now image) n ⌝ }
-    ensures { λ r. ⌜ r ≡ surveyFrom n (now (image .entry)) memory offset 0 (blank load) ⌝ }
+    ensures { λ r. ⌜ r ≡ surveyFrom n (now (image .entry)) (room memory) offset 0 (blank load) ⌝ }
 {
     let mut result = KernelLoaderResult {
         kernel_load: load,
