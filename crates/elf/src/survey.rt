@@ -32,6 +32,7 @@ use fields::ranges;
 use guest::Answer;
 use guest::Given;
 use guest::GuestAddress;
+use guest::ImagePlace;
 use guest::KernelLoaderResult;
 use guest::Memory;
 use guest::PvhBootCapability;
@@ -67,9 +68,10 @@ fn end_step(gate: Gate, at: u64, size: u64) -> Step
 }
 
 // A loadable segment with file bytes.
-fn segment_step(image_len: u64, memory: Memory, shift: u64, h: ProgramHeader) -> Step
-    ensures { λ r. ⌜ r ≡ stepBy (askedAll Open (segmentTests «image_len» (room memory) shift h)) (endOf shift h) ⌝ }
+fn segment_step(image_len: u64, memory: Memory, shift: GuestAddress, h: ProgramHeader) -> Step
+    ensures { λ r. ⌜ r ≡ stepBy (askedAll Open (segmentTests «image_len» (room memory) (shift .0) h)) (endOf (shift .0) h) ⌝ }
 {
+    let shift = shift.0;
     let p_paddr = h.p_paddr.0;
     if h.p_memsz < h.p_filesz {
         return Step::Stop(Refusal::InvalidProgramHeaderFileSize);
@@ -86,9 +88,10 @@ fn segment_step(image_len: u64, memory: Memory, shift: u64, h: ProgramHeader) ->
 }
 
 // A loadable segment of memory only: nothing is read or written, and no room is needed.
-fn memory_step(shift: u64, h: ProgramHeader) -> Step
-    ensures { λ r. ⌜ r ≡ stepBy (askedAll Open (memoryTests shift h)) (endOf shift h) ⌝ }
+fn memory_step(shift: GuestAddress, h: ProgramHeader) -> Step
+    ensures { λ r. ⌜ r ≡ stepBy (askedAll Open (memoryTests (shift .0) h)) (endOf (shift .0) h) ⌝ }
 {
+    let shift = shift.0;
     let p_paddr = h.p_paddr.0;
     if !ranges::sum_fits(shift, p_paddr) {
         return Step::Stop(Refusal::InvalidProgramHeaderAddress);
@@ -97,8 +100,8 @@ fn memory_step(shift: u64, h: ProgramHeader) -> Step
 }
 
 // A loadable segment: with file bytes, of memory only, or empty.
-fn load_step(image_len: u64, memory: Memory, shift: u64, h: ProgramHeader) -> Step
-    ensures { λ r. ⌜ r ≡ loadStep «image_len» (room memory) shift h ⌝ }
+fn load_step(image_len: u64, memory: Memory, shift: GuestAddress, h: ProgramHeader) -> Step
+    ensures { λ r. ⌜ r ≡ loadStep «image_len» (room memory) (shift .0) h ⌝ }
 {
     if h.p_filesz == 0 {
         if h.p_memsz == 0 {
@@ -131,7 +134,8 @@ fn examine(image: &[u8], memory: Memory, offset: Given, h: ProgramHeader) -> Ste
 {
     let p_type = h.p_type;
     if p_type == 1 {
-        return load_step(image.len() as u64, memory, addresses::amount(offset), h);
+        let shift = GuestAddress(addresses::amount(offset));
+        return load_step(image.len() as u64, memory, shift, h);
     }
     if p_type == 4 {
         return note_step(image, offset, h);
@@ -184,10 +188,10 @@ fn survey(
     memory: Memory,
     offset: Given,
     load: GuestAddress,
-    e_phoff: u64,
+    e_phoff: ImagePlace,
     n: u64,
 ) -> Answer
-    requires { ⌜ («e_phoff» ≡ e-phoff (now image)) × HeadersStand (now image) n ⌝ }
+    requires { ⌜ («e_phoff» .0 ≡ e-phoff (now image)) × HeadersStand (now image) n ⌝ }
     ensures { λ r. ⌜ r ≡ surveyFrom n (now (image .entry)) (room memory) offset 0 (blank load) ⌝ }
 {
     let mut result = KernelLoaderResult {
@@ -221,7 +225,7 @@ pub(crate) fn answer_load(image: &[u8], memory: Memory, offset: Given, highmem: 
         Gate::Shut(r) => Answer::Refused(r),
         Gate::Open => {
             let load = addresses::amount(offset) + numbers::read_u64(image, 24);
-            let e_phoff = numbers::read_u64(image, 32);
+            let e_phoff = ImagePlace(numbers::read_u64(image, 32));
             let e_phnum = numbers::read_u16(image, 56);
             survey(image, memory, offset, GuestAddress(load), e_phoff, e_phnum)
         }
