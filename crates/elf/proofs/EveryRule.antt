@@ -19,7 +19,7 @@ use Rattle.guest.specs.declared.Given.{Given}
 use Rattle.guest.specs.declared.GuestAddress.{GuestAddress}
 use Rattle.guest.specs.declared.Memory.{Memory}
 use Rattle.elf.specs.ProgramHeaders.{headerOf}
-use Rattle.elf.specs.Notes.{entryOf}
+use Rattle.elf.specs.NoteWalk.{entryOf}
 use Rattle.elf.specs.Survey.{segmentTests, memoryTests, endOf, stepBy, loadStep, saidStep, noteStep, stepOf}
 use Rattle.elf.specs.Pouring.{planOf}
 use Rattle.elf.specs.Verdict.{Passes, passes, Verdict, accepted, Accepted, is-accepted}

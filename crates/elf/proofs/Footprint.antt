@@ -28,6 +28,7 @@ use Rattle.elf.specs.Survey.{Rooms, noteStep, saidStep, stepOf, afterSte
 use Rattle.guest.specs.declared.Answer.{Answer}
 use Rattle.guest.specs.declared.Answer.the-variants.{Refused}
 use Rattle.guest.specs.declared.KernelLoaderResult.{KernelLoaderResult}
+use Rattle.elf.specs.declared.ElfNote.{ElfNote}
 use Rattle.elf.specs.declared.program_headers.ProgramHeader.{ProgramHeader}
 use Rattle.elf.specs.declared.survey.Effect.{Effect}
 use Rattle.elf.specs.declared.survey.Step.{Step}
@@ -73,7 +74,7 @@ module _ (s t : List ℕ) (offset : Given) (same : SameFootprint s t offset) whe
         (pick-both _≡_ (eqb (h .«p_type») 1) (λ _. refl)
         (λ _. pick-both _≡_ (eqb (h .«p_type») 4)
         (λ is. pick-both _≡_ (isGiven offset) (λ _. refl)
-        (λ none. ap saidStep (entry-same s t (same .lengths) (h .«p_offset») (h .«p_filesz») (notes none (eqb-true (h .«p_type») 4 is)))))
+        (λ none. ap (λ (n : ElfNote). saidStep (n .answer)) (entry-same s t (same .lengths) (h .«p_offset») (h .«p_filesz») (notes none (eqb-true (h .«p_type») 4 is)))))
         (λ _. refl)))
 
     step-same : (j : ℕ) → j < e-phnum s → stepOf s hasRoom offset (headerOf s j) ≡ stepOf t hasRoom offset (headerOf t j)

@@ -12,15 +12,14 @@ use lib.Dec.{leb}
 use lib.ListN.{length, drop, length-drop}
 use lib.Seq.{take-append-le, drop-append-le}
 use Rattle.answers.specs.Listing.{contains}
-use Rattle.answers.specs.Tests.{Test, AllHold}
+use Rattle.answers.specs.Tests.{AllHold}
 use Rattle.answers.specs.Keeping.{Keeps, same, lifted, ShutBy, shut-by, Widens, end, stays, grows}
 use Rattle.answers.specs.declared.Gate.{Gate}
 use Rattle.answers.specs.declared.Refusal.{Refusal}
 use Rattle.answers.specs.declared.Refusal.the-variants.{ReadElfHeader, ReadProgramHeader, ReadKernelImage, ReadNoteHeader}
 use Rattle.answers.proofs.KeepingLaws.{equal, pick-same, leb-grows, row-keeps, widens-append, widens-same}
 use Rattle.fields.proofs.NumbersLaws.{le-append}
-use Rattle.fields.specs.Ranges.{liesWithin}
-use Rattle.fields.proofs.RangesLaws.{within-sum, within-grows}
+use Rattle.fields.proofs.RangesLaws.{within-sum}
 use Rattle.fields.proofs.TagsLaws.{tag-append}
 use Rattle.guest.specs.Addresses.{amountOf}
 use Rattle.guest.specs.Lent.{lentTests}
@@ -49,7 +48,7 @@ use Rattle.elf.proofs.HeaderLaws.{stand-grows, header-stands, headers-s
 use Rattle.elf.proofs.Verdicts.{by-headers}
 use Rattle.elf.proofs.PouringLaws.{stream-none, stream-empty, stream-loads}
 use Rattle.elf.proofs.FitsLaws.{accepted-stand, accepted-fit}
-use Rattle.elf.proofs.NotesLengthened.{LiftSaid, lift-said, longer, as-long, pick-image, entry-longer}
+use Rattle.elf.proofs.NotesLengthened.{LiftSaid, lift-said, longer, as-long, image-widens, entry-longer}
 
 -- ---- the kinds that may lift, from a program header up to the plan
 
@@ -147,14 +146,11 @@ module _ (s t : List ℕ) (Lifts : Refusal → Type 0) (lifts : (r : Refusal) �
 
   module _ (m m' : Memory) (more-memory : Grows m m') (lifts-room : Lifts ReadKernelImage) (offset highmem : Given) where
     segment-longer : (shift : ℕ) (h : ProgramHeader) → Widens Lifts (segmentTests (length s) (room m) shift h) (segmentTests (length (s ++ t)) (room m') shift h)
-    segment-longer shift h = stays refl (λ _. stays refl (λ _. in-image (grows (more-memory .rooms _ _) lifts-room (λ _. stays refl (λ _. end)))))
-      where
-        in-image : {ts ts' : List Test} → Widens Lifts ts ts'
-            → Widens Lifts ((liesWithin (length s) (h .«p_offset» .0) (h .«p_filesz»), ReadKernelImage) ∷ ts) ((liesWithin (length (s ++ t)) (h .«p_offset» .0) (h .«p_filesz»), ReadKernelImage) ∷ ts')
-        in-image rest =
-            ⊎-elim (λ e. stays (ap (λ len. liesWithin len (h .«p_offset» .0) (h .«p_filesz»)) (as-long s t e)) (λ _. rest))
-            (λ l. grows (within-grows (length s) (length (s ++ t)) (h .«p_offset» .0) (h .«p_filesz») (longer s t)) l (λ _. rest))
-            (lifts ReadKernelImage for-segment)
+    segment-longer shift h =
+        stays refl
+        (λ _. stays refl
+        (λ _. image-widens s t Lifts ReadKernelImage (lifts ReadKernelImage for-segment) (h .«p_offset» .0) (h .«p_filesz»)
+        (λ _. grows (more-memory .rooms _ _) lifts-room (λ _. stays refl (λ _. end)))))
 
     load-longer : (shift : ℕ) (h : ProgramHeader) → Keeps (LiftStep Lifts) (loadStep (length s) (room m) shift h) (loadStep (length (s ++ t)) (room m') shift h)
     unfolding loadStep

@@ -31,15 +31,16 @@ use Rattle.guest.specs.declared.Answer.{Answer}
 use Rattle.guest.specs.declared.Answer.the-variants.{Loaded}
 use Rattle.elf.specs.Header.{e-phnum}
 use Rattle.elf.specs.ProgramHeaders.{headerOf}
-use Rattle.elf.specs.Notes.{saidOf, entryOf, walkOf}
+use Rattle.elf.specs.NoteWalk.{turnAt, afterTurn, walkFrom, twelves, entryOf}
 use Rattle.elf.specs.Survey.{Rooms, segmentTests, memoryTests, endOf, stepBy, loadStep, saidStep, noteStep, stepOf, firstFound, advanced, blank, loadAddress, surveyOf}
 use Rattle.elf.specs.Load.{LoadSays}
 use Rattle.elf.specs.Results.{HasMemory, IsEnd, GreatestEnd, GivesNote, NoneGives, FirstGives, SomeNotes, PvhIs, present, not-present, with-offset, no-notes, ResultIs, ElfValues}
 use Rattle.elf.specs.Verdict.{Accepted, is-accepted}
 use Rattle.elf.specs.declared.NoteAnswer.{NoteAnswer}
 use Rattle.elf.specs.declared.NoteAnswer.the-variants as answer
-use Rattle.elf.specs.declared.notes.Walk.{Walk}
-use Rattle.elf.specs.declared.notes.Walk.the-variants as walk
+use Rattle.elf.specs.declared.ElfNote.{ElfNote}
+use Rattle.elf.specs.declared.notes.Turn.{Turn}
+use Rattle.elf.specs.declared.notes.Turn.the-variants as turn
 use Rattle.elf.specs.declared.program_headers.ProgramHeader.{ProgramHeader}
 use Rattle.elf.specs.declared.survey.Effect.{Effect}
 use Rattle.elf.specs.declared.survey.Effect.the-variants as effect
@@ -68,16 +69,21 @@ of-passed {P} {e = e} (passes {e = x} p) is = let same : x ≡ e = cc in subst P
 of-passed (stops {r}) is = let w : _≡_ {A = ℕ} 0 1 = cc in absurd (omega arith)
 
 -- a note walk finds the note or not; it does not ignore it
-not-ignored : (image : List ℕ) (w : Walk) → saidOf image w ≡ answer.Says pvh.PvhEntryIgnored → ⊥
-unfolding saidOf
-not-ignored image (walk.Found place size) =
-    pick-with Not _ (λ _. pick-with Not _ (λ _ e. let w : _≡_ {A = ℕ} 0 1 = cc in omega arith) (λ _ e. let w : _≡_ {A = ℕ} 0 1 = cc in omega arith))
+abbrev NotIgnored : ElfNote → Type 0
+NotIgnored note = note .answer ≡ answer.Says pvh.PvhEntryIgnored → ⊥
+
+after-not : (t : Turn) (headers : ℕ) (more : ℕ → ElfNote) → ((k : ℕ) → NotIgnored (more k)) → NotIgnored (afterTurn t headers more)
+after-not (turn.Found note) headers more rest = λ e. let w : _≡_ {A = ℕ} 0 1 = cc in omega arith
+after-not (turn.Skip k) headers more rest = rest k
+after-not (turn.Refused r) headers more rest = λ e. let w : _≡_ {A = ℕ} 0 1 = cc in omega arith
+
+walk-not : (left : ℕ) (image : List ℕ) (from size read headers : ℕ) → NotIgnored (walkFrom left image from size read headers)
+unfolding walkFrom
+walk-not zero image from size read headers = λ e. let w : _≡_ {A = ℕ} 0 1 = cc in omega arith
+walk-not (suc left) image from size read headers =
+    pick-with NotIgnored _
+    (λ _. after-not (turnAt image (from + read)) (suc headers) (λ k. walkFrom left image from size (read + k) (suc headers)) (λ k. walk-not left image from size (read + k) (suc headers)))
     (λ _ e. let w : _≡_ {A = ℕ} 0 1 = cc in omega arith)
-  where
-    Not : NoteAnswer → Type 0
-    Not a = a ≡ answer.Says pvh.PvhEntryIgnored → ⊥
-not-ignored image walk.NotFound = λ e. let w : _≡_ {A = ℕ} 0 1 = cc in omega arith
-not-ignored image (walk.Refused r) = λ e. let w : _≡_ {A = ℕ} 0 1 = cc in omega arith
 
 module _ (image : List ℕ) (hasRoom : Rooms) (offset : Given) (h : ProgramHeader) where
   abbrev T : Step → Type 0
@@ -111,7 +117,7 @@ module _ (image : List ℕ) (hasRoom : Rooms) (offset : Given) (h : ProgramHeade
   said-changes is-4 none (answer.Says (pvh.PvhEntryPresent note)) e = passes (found (record { is-note = is-4; no-offset = none; walked = e }))
   said-changes is-4 none (answer.Says pvh.PvhEntryNotPresent) e =
       passes (not-found is-4 none (λ note g. let both = sym e ∙ g .walked in let w : _≡_ {A = ℕ} 0 1 = cc in omega arith))
-  said-changes is-4 none (answer.Says pvh.PvhEntryIgnored) e = absurd (not-ignored image (walkOf image (h .«p_offset») (h .«p_filesz») .walk) e)
+  said-changes is-4 none (answer.Says pvh.PvhEntryIgnored) e = absurd (walk-not (twelves (h .«p_filesz»)) image (h .«p_offset» .0) (h .«p_filesz») 0 0 e)
   said-changes is-4 none (answer.Refused r) e = stops
 
   step-changes : T (stepOf image hasRoom offset h)

@@ -13,7 +13,7 @@ use Rattle.guest.specs.declared.PvhBootCapability.{PvhBootCapability}
 use Rattle.guest.specs.declared.PvhBootCapability.the-variants.{PvhEntryPresent, PvhEntryNotPresent, PvhEntryIgnored}
 use Rattle.elf.specs.Header.{e-entry, e-phnum}
 use Rattle.elf.specs.ProgramHeaders.{headerOf}
-use Rattle.elf.specs.Notes.{entryOf}
+use Rattle.elf.specs.NoteWalk.{entryOf}
 use Rattle.elf.specs.Survey.{endOf, loadAddress}
 use Rattle.elf.specs.declared.NoteAnswer.the-variants.{Says}
 use Rattle.elf.specs.declared.program_headers.ProgramHeader.{ProgramHeader}

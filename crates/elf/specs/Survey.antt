@@ -15,7 +15,7 @@ use Rattle.guest.specs.declared.Given.{Given}
 use Rattle.guest.specs.declared.GuestAddress.{GuestAddress}
 use Rattle.elf.specs.Header.{e-entry, e-phnum}
 use Rattle.elf.specs.ProgramHeaders.{headerOf}
-use Rattle.elf.specs.Notes.{entryOf}
+use Rattle.elf.specs.NoteWalk.{entryOf}
 use Rattle.guest.specs.declared.PvhBootCapability.{PvhBootCapability}
 use Rattle.guest.specs.declared.PvhBootCapability.the-variants as pvh
 use Rattle.guest.specs.declared.KernelLoaderResult.{KernelLoaderResult}

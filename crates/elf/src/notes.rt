@@ -12,7 +12,12 @@
 ghost use mathlib.Core.Path.{_≡_};
 ghost use Prim.Native.Nat.{_+_, _≤_};
 ghost use lib.ListN.{length};
-ghost use Rattle.elf.specs.Notes.{isWanted, skipOf, turnAt, walkOf, entryOf, toldOf};
+ghost use Rattle.answers.specs.Tests.{askedAll};
+ghost use Rattle.answers.specs.declared.Gate.the-variants.{Open};
+ghost use Rattle.reading.specs.Notes.{noteHeaderOf};
+ghost use Rattle.elf.specs.NoteWalk.{turnBy, turnAt, entryOf};
+ghost use Rattle.elf.specs.declared.notes.Turn.the-variants.{Found, Skip};
+ghost use Rattle.elf.specs.Notes.{isWanted, pvhTests, sizeTests, noteLength, noteAt, refusedNote};
 use crate::ElfNote;
 use crate::NoteAnswer;
 use answers::Refusal;
@@ -26,28 +31,16 @@ use guest::PvhBootCapability;
 use guest::PvhNote;
 use reading::NoteHeader;
 
-// What one note says to the walk: its descriptor is wanted, or the next note is so many bytes further.
+// What one note says to the walk: it is the PVH note, or the next note is so many bytes further.
 pub enum Turn {
-    Found(ImagePlace, u64),
+    Found(PvhNote),
     Skip(u64),
     Refused(Refusal),
 }
 
-// What a walk finds: the place and the size of the wanted descriptor.
-pub enum Walk {
-    Found(ImagePlace, u64),
-    NotFound,
-    Refused(Refusal),
-}
-
-pub struct Walked {
-    pub walk: Walk,
-    pub headers: u64,
-}
-
-// A note that is not wanted: both its sizes are tested, which then fit 32 bits, and it is passed over.
+// A note that is not the PVH note: both its sizes are tested, which then fit 32 bits, and it is passed over.
 fn skip(note: NoteHeader) -> Turn
-    ensures { λ r. ⌜ r ≡ skipOf note ⌝ }
+    ensures { λ r. ⌜ r ≡ turnBy (askedAll Open (sizeTests note)) (Skip (noteLength note)) ⌝ }
 {
     if 0xFFFF_FFFC < note.n_namesz {
         return Turn::Refused(Refusal::Overflow);
@@ -60,6 +53,26 @@ fn skip(note: NoteHeader) -> Turn
     Turn::Skip(12 + name + desc)
 }
 
+// The PVH note, whose header is at an offset of the image: the size of its descriptor, then its first four bytes.
+fn pvh_note(image: &[u8], at: ImagePlace, size: u64) -> Turn
+    requires { ⌜ (at .0 + 16 ≤ length (now image)) × (size ≡ noteHeaderOf (now image) (at .0) .«n_descsz») ⌝ }
+    ensures { λ r. ⌜ r ≡ turnBy (askedAll Open (pvhTests (now (image .entry)) (at .0))) (Found (noteAt (now (image .entry)) (at .0))) ⌝ }
+{
+    if size < 4 {
+        return Turn::Refused(Refusal::InvalidPvhNote);
+    }
+    let place = at.0 + 16;
+    if !ranges::within(image.len() as u64, place, 4) {
+        return Turn::Refused(Refusal::ReadNoteHeader);
+    }
+    let address = numbers::read_u32(image, place);
+    Turn::Found(PvhNote {
+        entry: GuestAddress(address),
+        place: ImagePlace(place),
+        size: size,
+    })
+}
+
 // Do a note's type and name size say that its name has to be looked at?
 fn is_wanted(note: NoteHeader) -> bool
     ensures { λ r. ⌜ r ≡ isWanted note ⌝ }
@@ -70,7 +83,8 @@ fn is_wanted(note: NoteHeader) -> bool
     note.n_namesz == 4
 }
 
-// The note whose header stands at a place. The header's 12 bytes are lent on: in a slice of known length no field asks for its bounds.
+// The note whose header is at an offset of the image. Its 12 bytes are a slice of known length, in which no field is
+// tested for its bounds.
 fn note_at(image: &[u8], at: u64) -> Turn
     requires { ⌜ at + 12 ≤ length (now image) ⌝ }
     ensures { λ r. ⌜ r ≡ turnAt (now (image .entry)) at ⌝ }
@@ -86,12 +100,22 @@ fn note_at(image: &[u8], at: u64) -> Turn
     if !tags::is_tag(image, at + 12, b"Xen\0") {
         return skip(note);
     }
-    Turn::Found(ImagePlace(at + 16), note.n_descsz)
+    pvh_note(image, ImagePlace(at), note.n_descsz)
 }
 
-// Note after note, from p_offset on, while fewer than p_filesz bytes are read.
-fn walk_notes(image: &[u8], p_offset: ImagePlace, p_filesz: u64) -> Walked
-    ensures { λ r. ⌜ r ≡ walkOf (now (image .entry)) «p_offset» «p_filesz» ⌝ }
+// A refusal has no count.
+fn refused(r: Refusal) -> ElfNote
+    ensures { λ n. ⌜ n ≡ refusedNote r ⌝ }
+{
+    ElfNote {
+        answer: NoteAnswer::Refused(r),
+        headers: 0,
+    }
+}
+
+// Note after note, from p_offset on, while fewer than p_filesz bytes are read: the PVH entry, and the headers read.
+pub(crate) fn entry(image: &[u8], p_offset: ImagePlace, p_filesz: u64) -> ElfNote
+    ensures { λ r. ⌜ r ≡ entryOf (now (image .entry)) «p_offset» «p_filesz» ⌝ }
 {
     let from = p_offset.0;
     let len = image.len() as u64;
@@ -99,94 +123,27 @@ fn walk_notes(image: &[u8], p_offset: ImagePlace, p_filesz: u64) -> Walked
     let mut headers: u64 = 0;
     while read < p_filesz {
         if !ranges::within(len, from, read + 12) {
-            return Walked {
-                walk: Walk::Refused(Refusal::ReadNoteHeader),
-                headers: headers,
-            };
+            return refused(Refusal::ReadNoteHeader);
         }
         headers += 1;
         let turn = note_at(image, from + read);
         match turn {
-            Turn::Found(place, size) => {
-                return Walked {
-                    walk: Walk::Found(place, size),
+            Turn::Found(note) => {
+                return ElfNote {
+                    answer: NoteAnswer::Says(PvhBootCapability::PvhEntryPresent(note)),
                     headers: headers,
                 };
             }
             Turn::Refused(r) => {
-                return Walked {
-                    walk: Walk::Refused(r),
-                    headers: headers,
-                };
+                return refused(r);
             }
             Turn::Skip(n) => {
                 read += n;
             }
         }
     }
-    Walked {
-        walk: Walk::NotFound,
-        headers: headers,
-    }
-}
-
-// The PVH entry that the notes give, and the headers read, whatever the answer is.
-pub(crate) fn entry(image: &[u8], p_offset: ImagePlace, p_filesz: u64) -> ElfNote
-    ensures { λ r. ⌜ r ≡ entryOf (now (image .entry)) «p_offset» «p_filesz» ⌝ }
-{
-    let walked = walk_notes(image, p_offset, p_filesz);
-    let answer = walked.walk;
-    let headers = walked.headers;
-    let Walk::Found(place, size) = answer else {
-        let Walk::Refused(r) = answer else {
-            return ElfNote {
-                answer: NoteAnswer::Says(PvhBootCapability::PvhEntryNotPresent),
-                headers: headers,
-            };
-        };
-        return ElfNote {
-            answer: NoteAnswer::Refused(r),
-            headers: headers,
-        };
-    };
-    if size < 4 {
-        return ElfNote {
-            answer: NoteAnswer::Refused(Refusal::InvalidPvhNote),
-            headers: headers,
-        };
-    }
-    let at = place.0;
-    if !ranges::within(image.len() as u64, at, 4) {
-        return ElfNote {
-            answer: NoteAnswer::Refused(Refusal::ReadNoteHeader),
-            headers: headers,
-        };
-    }
-    let address = numbers::read_u32(image, at);
-    let note = PvhNote {
-        entry: GuestAddress(address),
-        place: place,
-        size: size,
-    };
     ElfNote {
-        answer: NoteAnswer::Says(PvhBootCapability::PvhEntryPresent(note)),
+        answer: NoteAnswer::Says(PvhBootCapability::PvhEntryNotPresent),
         headers: headers,
-    }
-}
-
-// A refusal is told alone: no headers beside it.
-pub(crate) fn told(note: ElfNote) -> ElfNote
-    ensures { λ r. ⌜ r ≡ toldOf note ⌝ }
-{
-    let answer = note.answer;
-    match answer {
-        NoteAnswer::Says(pvh) => ElfNote {
-            answer: NoteAnswer::Says(pvh),
-            headers: note.headers,
-        },
-        NoteAnswer::Refused(r) => ElfNote {
-            answer: NoteAnswer::Refused(r),
-            headers: 0,
-        },
     }
 }
