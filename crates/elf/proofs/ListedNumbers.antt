@@ -37,6 +37,7 @@ use Rattle.elf.specs.declared.program_headers.ProgramHeader.{ProgramHead
 use Rattle.elf.specs.declared.survey.Effect.{Effect}
 use Rattle.elf.specs.declared.survey.Step.{Step}
 use Rattle.elf.specs.declared.survey.Step.the-variants.{Pass, Stop}
+use Rattle.elf.proofs.NotesLaws.{found}
 use Rattle.elf.proofs.Verdicts.{verdict}
 
 -- ---- notes: where the walk refuses, the number is one of a list that has those of a note's tests
@@ -50,12 +51,12 @@ ListedNote numbers note = ListedAnswer numbers (note .answer)
 
 module _ (numbers : List ℕ) (row : (image : List ℕ) (p : ℕ) → rowListed numbers (noteTests image p) ≡ true) where
   turn-listed : (image : List ℕ) (p headers : ℕ) (more : ℕ → ElfNote) → ((k : ℕ) → ListedNote numbers (more k))
-      → ListedNote numbers (afterTurn (turnAt image p) headers more)
+      → ListedNote numbers (afterTurn (noteAt image p) (turnAt image p) headers more)
   unfolding turnAt pick
   turn-listed image p headers more rest = by (askedAll Open (noteTests image p)) refl (isPvhNote image p)
     where
       by : (gate : Gate) → askedAll Open (noteTests image p) ≡ gate → (it : Bool)
-          → ListedNote numbers (afterTurn (turnBy gate (pick it (turn.Found (noteAt image p)) (turn.Skip (noteLength (noteHeaderOf image p))))) headers more)
+          → ListedNote numbers (afterTurn (noteAt image p) (turnBy gate (pick it (found image p) (turn.Skip (noteLength (noteHeaderOf image p))))) headers more)
       by (Shut r) e it = refuses (first-listed numbers (noteTests image p) (row image p) (shut-first (noteTests image p) r e))
       by Open e true = says
       by Open e false = rest (noteLength (noteHeaderOf image p))

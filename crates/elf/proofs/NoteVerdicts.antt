@@ -45,15 +45,15 @@ module _ (image : List ℕ) (from size : ℕ) where
   unfolding walkFrom turnAt pick
   note-step left j read lt =
       rw (lt-ltb read size lt)
-      (by (askedAll Open (noteTests image (from + read))) (isPvhNote image (from + read)) (noteAt image (from + read)) (noteLength (noteHeaderOf image (from + read)))
+      (by (askedAll Open (noteTests image (from + read))) (isPvhNote image (from + read)) (noteAt image (from + read)) _ _ (noteLength (noteHeaderOf image (from + read)))
       (λ k. walkFrom left image from size (read + k) (suc j)))
     where
-      by : (gate : Gate) (it : Bool) (note : PvhNote) (k : ℕ) (more : ℕ → ElfNote)
-          → afterTurn (turnBy gate (pick it (turn.Found note) (turn.Skip k))) (suc j) more
+      by : (gate : Gate) (it : Bool) (note : PvhNote) (place : ImagePlace) (size k : ℕ) (more : ℕ → ElfNote)
+          → afterTurn note (turnBy gate (pick it (turn.Found place size) (turn.Skip k))) (suc j) more
           ≡ ifOpen gate (pick it (record { answer = answer.Says (pvh.PvhEntryPresent note); headers = suc j }) (more k))
-      by (Shut r) it note k more = refl
-      by Open true note k more = refl
-      by Open false note k more = refl
+      by (Shut r) it note place size k more = refl
+      by Open true note place size k more = refl
+      by Open false note place size k more = refl
 
   -- ---- the walk from a note on
 

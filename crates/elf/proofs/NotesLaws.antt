@@ -3,9 +3,12 @@ use Prim.Native.Nat.{ℕ, zero, suc, _+_, _*_, _-_, _≤_, _<_}
 use mathlib.Core.Path.{_≡_, refl, sym, _∙_, ap, subst}
 use mathlib.Core.Bool.{Bool, true, false}
 use mathlib.Core.List.{List, [], _∷_}
+use mathlib.Core.Logic.{⊎-elim}
 use native.Mathlib.Omega.{arith}
 use native.Mathlib.Nat.{add-zero, add-assoc}
 use borrow.Author.Tests.{lt-ltb, le-ltb, leb-true}
+use types.Run.{OneOf}
+use denote.Enum.Declared.{tagOf}
 use lib.Dec.{leb}
 use lib.ListN.{length, take, drop}
 use Rattle.answers.specs.Pick.{pick}
@@ -20,13 +23,20 @@ use Rattle.fields.specs.Ranges.{liesWithin}
 use Rattle.fields.specs.Tags.{tagAt}
 use Rattle.fields.proofs.NumbersLaws.{le-within}
 use Rattle.fields.proofs.RangesLaws.{within-test, within-sum}
-use Rattle.guest.specs.declared.PvhNote.{PvhNote}
+use Rattle.guest.specs.declared.ImagePlace.{ImagePlace}
+use Rattle.guest.specs.declared.PvhBootCapability.the-variants as pvh
 use Rattle.reading.specs.Notes.{noteHeaderOf}
-use Rattle.elf.specs.Notes.{noteHeaderSize, xen, isWanted, isPvhNote, topSize, noteLength, noteAt, pvhTests, sizeTests, noteTests, refusedNote, noEntry}
-use Rattle.elf.specs.NoteWalk.{turnBy, turnAt, afterTurn, walkFrom, twelves}
+use Rattle.elf.specs.Notes.{noteHeaderSize, xen, isWanted, isPvhNote, topSize, noteLength, noteWith, descriptorAt, noteAt, pvhTests, sizeTests, noteTests, refusedNote, noEntry}
+use Rattle.elf.specs.NoteWalk.{turnBy, turnAt, afterTurn, walkFrom, twelves, entryOf, saidBy, noteOf}
+use Rattle.elf.specs.declared.NoteAnswer.{NoteAnswer}
+use Rattle.elf.specs.declared.NoteAnswer.the-variants as answer
 use Rattle.elf.specs.declared.ElfNote.{ElfNote}
 use Rattle.elf.specs.declared.notes.Turn.{Turn}
 use Rattle.elf.specs.declared.notes.Turn.the-variants as turn
+use Rattle.elf.specs.declared.notes.Walk.{Walk}
+use Rattle.elf.specs.declared.notes.Walk.the-variants as walk
+use Rattle.elf.specs.declared.notes.Walked.{Walked}
+use Rattle.elf.proofs.notes.Walk.{the-type as the-walk}
 
 -- ---- a note's header
 
@@ -49,6 +59,10 @@ own-offset len from read =
 
 -- ---- a note, as code looks at it
 
+-- it is the PVH note
+abbrev pub found : List ℕ → ℕ → Turn
+found image p = turn.Found (record { 0 = descriptorAt p }) (noteHeaderOf image p .«n_descsz»)
+
 module _ (image : List ℕ) (p : ℕ) where
   abbrev skips-it : Turn
   skips-it = turnBy (askedAll Open (sizeTests (noteHeaderOf image p))) (turn.Skip (noteLength (noteHeaderOf image p)))
@@ -57,7 +71,7 @@ module _ (image : List ℕ) (p : ℕ) where
   unfolding turnAt noteTests asked pick
   turn-short short =
       rw short
-      (ap (λ (gate : Gate). turnBy gate (pick (isPvhNote image p) (turn.Found (noteAt image p)) (turn.Skip (noteLength (noteHeaderOf image p)))))
+      (ap (λ (gate : Gate). turnBy gate (pick (isPvhNote image p) (found image p) (turn.Skip (noteLength (noteHeaderOf image p)))))
       (shut-stays (pick (isPvhNote image p) (pvhTests image p) (sizeTests (noteHeaderOf image p))) ReadNoteHeader))
 
   module _ (stands : liesWithin (length image) p noteHeaderSize ≡ true) where
@@ -70,7 +84,7 @@ module _ (image : List ℕ) (p : ℕ) where
       unfolding turnAt noteTests asked pick
       turn-unnamed short =
           rw (stands, wanted, short)
-          (ap (λ (gate : Gate). turnBy gate (pick (isPvhNote image p) (turn.Found (noteAt image p)) (turn.Skip (noteLength (noteHeaderOf image p)))))
+          (ap (λ (gate : Gate). turnBy gate (pick (isPvhNote image p) (found image p) (turn.Skip (noteLength (noteHeaderOf image p)))))
           (shut-stays (pick (isPvhNote image p) (pvhTests image p) (sizeTests (noteHeaderOf image p))) ReadNoteHeader))
 
       module _ (named : liesWithin (length image) (p + noteHeaderSize) 4 ≡ true) where
@@ -78,7 +92,7 @@ module _ (image : List ℕ) (p : ℕ) where
         unfolding turnAt noteTests isPvhNote asked pick
         turn-named other = rw (stands, wanted, named, other)
 
-        pub turn-pvh : tagAt xen image (p + noteHeaderSize) ≡ true → turnAt image p ≡ turnBy (askedAll Open (pvhTests image p)) (turn.Found (noteAt image p))
+        pub turn-pvh : tagAt xen image (p + noteHeaderSize) ≡ true → turnAt image p ≡ turnBy (askedAll Open (pvhTests image p)) (found image p)
         unfolding turnAt noteTests isPvhNote asked pick
         turn-pvh it = rw (stands, wanted, named, it)
 
@@ -88,10 +102,10 @@ module _ (image : List ℕ) (p : ℕ) where
 abbrev pub longestNote : ℕ
 longestNote = 8589934604
 
-data Strides : Turn → Type 0 where
-  finds : {note : PvhNote} → Strides (turn.Found note)
-  skips : {k : ℕ} → noteHeaderSize ≤ k → k ≤ longestNote → Strides (turn.Skip k)
-  refuses : {r : Refusal} → Strides (turn.Refused r)
+data Strides (image : List ℕ) (p : ℕ) : Turn → Type 0 where
+  finds : Strides image p (found image p)
+  skips : {k : ℕ} → noteHeaderSize ≤ k → k ≤ longestNote → Strides image p (turn.Skip k)
+  refuses : {r : Refusal} → Strides image p (turn.Refused r)
 
 -- of a note that is not the PVH note both sizes were tested
 pub sizes-hold : (image : List ℕ) (p : ℕ) → isPvhNote image p ≡ false → AllHold (noteTests image p) → AllHold (sizeTests (noteHeaderOf image p))
@@ -106,25 +120,59 @@ pub header-lies : (image : List ℕ) (p : ℕ) → AllHold (noteTests image p) �
 unfolding noteTests
 header-lies image p hold = within-sum (length image) p noteHeaderSize (hold .0)
 
-turn-strides : (image : List ℕ) (p : ℕ) → Strides (turnAt image p)
+turn-strides : (image : List ℕ) (p : ℕ) → Strides image p (turnAt image p)
 unfolding turnAt
 turn-strides image p = by (askedAll Open (noteTests image p)) refl
   where
     by : (gate : Gate) → askedAll Open (noteTests image p) ≡ gate
-        → Strides (turnBy gate (pick (isPvhNote image p) (turn.Found (noteAt image p)) (turn.Skip (noteLength (noteHeaderOf image p)))))
+        → Strides image p (turnBy gate (pick (isPvhNote image p) (found image p) (turn.Skip (noteLength (noteHeaderOf image p)))))
     by (Shut r) e = refuses
     by Open e =
-        pick-with Strides (isPvhNote image p) (λ _. finds)
+        pick-with (Strides image p) (isPvhNote image p) (λ _. finds)
         (λ other. let sizes = sizes-hold image p other (open-all (noteTests image p) e) in
         let name-small = leb-true (noteHeaderOf image p .«n_namesz») topSize (sizes .0) in
         let desc-small = leb-true (noteHeaderOf image p .«n_descsz») topSize (sizes .1 .0) in
         skips (omega arith) (omega arith))
 
-skip-bounds : {k : ℕ} → Strides (turn.Skip k) → (noteHeaderSize ≤ k) × (k ≤ longestNote)
+-- of a note that is found the header lies in the image, and both tests of its descriptor hold
+data Held (P : Type 0) : Turn → Type 0 where
+  held-found : {place : ImagePlace} {size : ℕ} → P → Held P (turn.Found place size)
+  held-skip : {k : ℕ} → Held P (turn.Skip k)
+  held-refused : {r : Refusal} → Held P (turn.Refused r)
+
+turn-held : (image : List ℕ) (p : ℕ) → Held ((p + noteHeaderSize ≤ length image) × AllHold (pvhTests image p)) (turnAt image p)
+unfolding turnAt
+turn-held image p = by (askedAll Open (noteTests image p)) refl
+  where
+    P : Type 0
+    P = (p + noteHeaderSize ≤ length image) × AllHold (pvhTests image p)
+
+    by : (gate : Gate) → askedAll Open (noteTests image p) ≡ gate
+        → Held P (turnBy gate (pick (isPvhNote image p) (found image p) (turn.Skip (noteLength (noteHeaderOf image p)))))
+    by (Shut r) e = held-refused
+    by Open e =
+        let hold = open-all (noteTests image p) e in
+        pick-with (Held P) (isPvhNote image p) (λ it. held-found (header-lies image p hold, pvh-hold image p it hold)) (λ _. held-skip)
+
+of-held : {P : Type 0} {place : ImagePlace} {size : ℕ} → Held P (turn.Found place size) → P
+of-held (held-found p) = p
+
+pub found-hold : {place : ImagePlace} {size : ℕ} (image : List ℕ) (p : ℕ) → turnAt image p ≡ turn.Found place size
+    → (p + noteHeaderSize ≤ length image) × AllHold (pvhTests image p)
+found-hold image p e = of-held (subst (Held ((p + noteHeaderSize ≤ length image) × AllHold (pvhTests image p))) e (turn-held image p))
+
+skip-bounds : {image : List ℕ} {p k : ℕ} → Strides image p (turn.Skip k) → (noteHeaderSize ≤ k) × (k ≤ longestNote)
 skip-bounds (skips least most) = (least, most)
 
 pub strides : {k : ℕ} (image : List ℕ) (p : ℕ) → turnAt image p ≡ turn.Skip k → (noteHeaderSize ≤ k) × (k ≤ longestNote)
-strides image p e = skip-bounds (subst Strides e (turn-strides image p))
+strides image p e = skip-bounds (subst (Strides image p) e (turn-strides image p))
+
+-- the note that is found is the PVH note at p
+found-with : {image : List ℕ} {p size : ℕ} {place : ImagePlace} → Strides image p (turn.Found place size) → noteWith image place size ≡ noteAt image p
+found-with finds = refl
+
+pub found-note : {place : ImagePlace} {size : ℕ} (image : List ℕ) (p : ℕ) → turnAt image p ≡ turn.Found place size → noteWith image place size ≡ noteAt image p
+found-note image p e = found-with (subst (Strides image p) e (turn-strides image p))
 
 -- ---- the walk, note by note
 
@@ -132,7 +180,7 @@ module _ (image : List ℕ) (from size read headers : ℕ) where
   -- each note before this one took twelve bytes or more: so it is one of those that are left
   pub walk-through : {whole : ElfNote} {t : Turn} → 12 * headers ≤ read → read < size → turnAt image (from + read) ≡ t
       → walkFrom (twelves size - headers) image from size read headers ≡ whole
-      → afterTurn t (headers + 1) (λ k. walkFrom (twelves size - (headers + 1)) image from size (read + k) (headers + 1)) ≡ whole
+      → afterTurn (noteAt image (from + read)) t (headers + 1) (λ k. walkFrom (twelves size - (headers + 1)) image from size (read + k) (headers + 1)) ≡ whole
   unfolding walkFrom pick
   walk-through few lt et rest =
       let left : twelves size - headers ≡ suc (twelves size - (headers + 1)) = omega arith in
@@ -144,3 +192,19 @@ module _ (image : List ℕ) (from size read headers : ℕ) where
   unfolding walkFrom pick
   walk-end zero h = refl
   walk-end (suc n) h = rw (le-ltb read size h)
+
+-- ---- what the walk says
+
+-- if no note was found, and nothing refused
+pub not-found : (image : List ℕ) (w : Walk) → OneOf (1 ∷ 2 ∷ []) (tagOf the-walk w) → OneOf (0 ∷ 1 ∷ []) (tagOf the-walk w)
+    → answer.Says pvh.PvhEntryNotPresent ≡ saidBy image w
+unfolding saidBy
+not-found image (walk.Found place size) h g = absurd (⊎-elim (λ e. omega arith) (λ e. omega arith) h)
+not-found image walk.NotFound h g = refl
+not-found image (walk.Refused r) h g = absurd (⊎-elim (λ e. omega arith) (λ e. omega arith) g)
+
+pub said-as : (image : List ℕ) (from : ImagePlace) (size : ℕ) {walked : Walked} {w : Walk} {said : NoteAnswer}
+    → noteOf image walked ≡ entryOf image from size → walked .walk ≡ w → said ≡ saidBy image w
+    → _≡_ {A = ElfNote} (record { answer = said; headers = walked .headers }) (entryOf image from size)
+said-as image from size {walked} ew found es =
+    ap (λ (a : NoteAnswer). record { answer = a; headers = walked .headers }) (es ∙ ap (saidBy image) (sym found)) ∙ ew

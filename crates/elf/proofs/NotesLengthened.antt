@@ -16,7 +16,6 @@ use Rattle.answers.specs.declared.Gate.the-variants.{Open, Shut}
 use Rattle.answers.specs.declared.Refusal.{Refusal}
 use Rattle.answers.specs.declared.Refusal.the-variants.{ReadNoteHeader, InvalidPvhNote}
 use Rattle.answers.proofs.KeepingLaws.{kept, equal, keeps-map, pick-same, row-keeps, widens-same}
-use Rattle.answers.proofs.PickLaws.{pick-both}
 use Rattle.answers.proofs.TestsLaws.{open-all}
 use Rattle.fields.specs.Ranges.{liesWithin}
 use Rattle.fields.specs.Tags.{tagAt}
@@ -25,6 +24,8 @@ use Rattle.fields.proofs.RangesLaws.{within-sum, within-grows}
 use Rattle.fields.proofs.TagsLaws.{tag-append}
 use Rattle.guest.specs.Sizes.{longest}
 use Rattle.guest.specs.declared.ImagePlace.{ImagePlace}
+use Rattle.guest.specs.declared.PvhNote.{PvhNote}
+use Rattle.guest.specs.declared.PvhBootCapability.the-variants as pvh
 use Rattle.guest.proofs.RoomLaws.{allowed-longer}
 use Rattle.reading.specs.Notes.{noteHeaderOf}
 use Rattle.reading.specs.declared.NoteHeader.{NoteHeader}
@@ -35,7 +36,7 @@ use Rattle.elf.specs.declared.NoteAnswer.the-variants as answer
 use Rattle.elf.specs.declared.ElfNote.{ElfNote}
 use Rattle.elf.specs.declared.notes.Turn.{Turn}
 use Rattle.elf.specs.declared.notes.Turn.the-variants as turn
-use Rattle.elf.proofs.NotesLaws.{header-lies, pvh-hold}
+use Rattle.elf.proofs.NotesLaws.{found, header-lies, found-hold}
 
 -- ---- the kinds that may lift, from a note up to the answer, and what follows each of them
 
@@ -57,15 +58,18 @@ module _ (Lifts : Refusal → Type 0) where
       at Open opened = equal LiftTurn (opened refl)
       at (Shut r) opened = same
 
-  turn-after : (headers : ℕ) {x x' : Turn} {more more' : ℕ → ElfNote} → Keeps LiftTurn x x' → ((k : ℕ) → Keeps LiftNote (more k) (more' k))
-      → Keeps LiftNote (afterTurn x headers more) (afterTurn x' headers more')
-  turn-after headers (lifted (lift-turn l)) rest = lifted (lift-said l)
-  turn-after headers {x} {more = more} {more' = more'} same rest = at x
+  turn-after : (note note' : PvhNote) (headers : ℕ) {x x' : Turn} {more more' : ℕ → ElfNote} → Keeps LiftTurn x x'
+      → ((place : ImagePlace) (size : ℕ) → x ≡ turn.Found place size → note' ≡ note) → ((k : ℕ) → Keeps LiftNote (more k) (more' k))
+      → Keeps LiftNote (afterTurn note x headers more) (afterTurn note' x' headers more')
+  turn-after note note' headers (lifted (lift-turn l)) one rest = lifted (lift-said l)
+  turn-after note note' headers {x} {more = more} {more' = more'} same one rest = at x one
     where
-      at : (x : Turn) → Keeps LiftNote (afterTurn x headers more) (afterTurn x headers more')
-      at (turn.Found note) = same
-      at (turn.Skip k) = rest k
-      at (turn.Refused r) = same
+      at : (x : Turn) → ((place : ImagePlace) (size : ℕ) → x ≡ turn.Found place size → note' ≡ note)
+          → Keeps LiftNote (afterTurn note x headers more) (afterTurn note' x headers more')
+      at (turn.Found place size) one =
+          equal LiftNote (ap (λ (n : PvhNote). record { answer = answer.Says (pvh.PvhEntryPresent n); headers = headers }) (one place size refl))
+      at (turn.Skip k) one = rest k
+      at (turn.Refused r) one = same
 
 -- ---- an image and what is added to it
 
@@ -133,12 +137,15 @@ module _ (s t : List ℕ) (Lifts : Refusal → Type 0) (lifts : (t ≡ []) ⊎ L
     it-same hold = rw (note-append s t p (within-sum (length s) p noteHeaderSize (hold .0))) (name-same (isWanted note) (hold .1 .0))
 
     says-same : AllHold (noteTests s p)
-        → pick (isPvhNote (s ++ t) p) (turn.Found (noteAt (s ++ t) p)) (turn.Skip (noteLength (noteHeaderOf (s ++ t) p)))
-        ≡ pick (isPvhNote s p) (turn.Found (noteAt s p)) (turn.Skip (noteLength note))
-    says-same hold =
-        rw (it-same hold, note-append s t p (header-lies s p hold))
-        (pick-both _≡_ (isPvhNote s p)
-        (λ it. let lies = within-sum (length s) (descriptorAt p) 4 (pvh-hold s p it hold .1 .0) in rw (le-append 4 s t (descriptorAt p) lies)) (λ _. refl))
+        → pick (isPvhNote (s ++ t) p) (found (s ++ t) p) (turn.Skip (noteLength (noteHeaderOf (s ++ t) p)))
+        ≡ pick (isPvhNote s p) (found s p) (turn.Skip (noteLength note))
+    says-same hold = rw (it-same hold, note-append s t p (header-lies s p hold))
+
+    found-same : {place : ImagePlace} {size : ℕ} → turnAt s p ≡ turn.Found place size → noteAt (s ++ t) p ≡ noteAt s p
+    found-same e =
+        let hold = found-hold s p e in
+        let lies = within-sum (length s) (descriptorAt p) 4 (hold .1 .1 .0) in
+        rw (note-append s t p (hold .0), le-append 4 s t (descriptorAt p) lies)
 
     turn-longer : Keeps (LiftTurn Lifts) (turnAt s p) (turnAt (s ++ t) p)
     unfolding turnAt
@@ -149,7 +156,7 @@ module _ (s t : List ℕ) (Lifts : Refusal → Type 0) (lifts : (t ≡ []) ⊎ L
   walk-longer zero from size read headers = same
   walk-longer (suc left) from size read headers =
       pick-same (LiftNote Lifts) _ _ refl
-      (λ _. turn-after Lifts (suc headers) (turn-longer (from + read)) (λ k. walk-longer left from size (read + k) (suc headers))) (λ _. same)
+      (λ _. turn-after Lifts (noteAt s (from + read)) (noteAt (s ++ t) (from + read)) (suc headers) (turn-longer (from + read)) (λ place size e. found-same (from + read) e) (λ k. walk-longer left from size (read + k) (suc headers))) (λ _. same)
 
   note-kept : (from : ImagePlace) (size : ℕ) → Keeps (LiftNote Lifts) (entryOf s from size) (entryOf (s ++ t) from size)
   unfolding entryOf

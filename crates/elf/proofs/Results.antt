@@ -31,6 +31,7 @@ use Rattle.guest.specs.declared.Answer.{Answer}
 use Rattle.guest.specs.declared.Answer.the-variants.{Loaded}
 use Rattle.elf.specs.Header.{e-phnum}
 use Rattle.elf.specs.ProgramHeaders.{headerOf}
+use Rattle.elf.specs.Notes.{noteAt}
 use Rattle.elf.specs.NoteWalk.{turnAt, afterTurn, walkFrom, twelves, entryOf}
 use Rattle.elf.specs.Survey.{Rooms, segmentTests, memoryTests, endOf, stepBy, loadStep, saidStep, noteStep, stepOf, firstFound, advanced, blank, loadAddress, surveyOf}
 use Rattle.elf.specs.Load.{LoadSays}
@@ -72,17 +73,17 @@ of-passed (stops {r}) is = let w : _≡_ {A = ℕ} 0 1 = cc in absurd (omega ari
 abbrev NotIgnored : ElfNote → Type 0
 NotIgnored note = note .answer ≡ answer.Says pvh.PvhEntryIgnored → ⊥
 
-after-not : (t : Turn) (headers : ℕ) (more : ℕ → ElfNote) → ((k : ℕ) → NotIgnored (more k)) → NotIgnored (afterTurn t headers more)
-after-not (turn.Found note) headers more rest = λ e. let w : _≡_ {A = ℕ} 0 1 = cc in omega arith
-after-not (turn.Skip k) headers more rest = rest k
-after-not (turn.Refused r) headers more rest = λ e. let w : _≡_ {A = ℕ} 0 1 = cc in omega arith
+after-not : (note : PvhNote) (t : Turn) (headers : ℕ) (more : ℕ → ElfNote) → ((k : ℕ) → NotIgnored (more k)) → NotIgnored (afterTurn note t headers more)
+after-not note (turn.Found place size) headers more rest = λ e. let w : _≡_ {A = ℕ} 0 1 = cc in omega arith
+after-not note (turn.Skip k) headers more rest = rest k
+after-not note (turn.Refused r) headers more rest = λ e. let w : _≡_ {A = ℕ} 0 1 = cc in omega arith
 
 walk-not : (left : ℕ) (image : List ℕ) (from size read headers : ℕ) → NotIgnored (walkFrom left image from size read headers)
 unfolding walkFrom
 walk-not zero image from size read headers = λ e. let w : _≡_ {A = ℕ} 0 1 = cc in omega arith
 walk-not (suc left) image from size read headers =
     pick-with NotIgnored _
-    (λ _. after-not (turnAt image (from + read)) (suc headers) (λ k. walkFrom left image from size (read + k) (suc headers)) (λ k. walk-not left image from size (read + k) (suc headers)))
+    (λ _. after-not (noteAt image (from + read)) (turnAt image (from + read)) (suc headers) (λ k. walkFrom left image from size (read + k) (suc headers)) (λ k. walk-not left image from size (read + k) (suc headers)))
     (λ _ e. let w : _≡_ {A = ℕ} 0 1 = cc in omega arith)
 
 module _ (image : List ℕ) (hasRoom : Rooms) (offset : Given) (h : ProgramHeader) where

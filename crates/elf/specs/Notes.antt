@@ -14,6 +14,7 @@ use Rattle.fields.specs.Ranges.{liesWithin}
 use Rattle.fields.specs.Rounding.{roundedUp}
 use Rattle.fields.specs.Tags.{tagAt}
 use Rattle.guest.specs.Sizes.{allowed}
+use Rattle.guest.specs.declared.ImagePlace.{ImagePlace}
 use Rattle.guest.specs.declared.PvhNote.{PvhNote}
 use Rattle.guest.specs.declared.PvhBootCapability.the-variants as pvh
 use Rattle.reading.specs.Notes.{noteHeaderOf}
@@ -49,17 +50,16 @@ topSize = 0xFFFFFFFC
 abbrev pub noteLength : NoteHeader → ℕ
 noteLength note = noteHeaderSize + roundedUp (note .«n_namesz») + roundedUp (note .«n_descsz»)
 
--- where the descriptor of the PVH note at p begins; the entry is the number of its first four bytes
+-- a descriptor at an offset of the image, of this size: the entry is the number of its first four bytes
+abbrev pub noteWith : List ℕ → ImagePlace → ℕ → PvhNote
+noteWith image place size = record { entry = record { 0 = le 4 image (place .0) }; place = place; size = size }
+
+-- the PVH note at p, whose descriptor follows the four bytes of its name
 abbrev pub descriptorAt : ℕ → ℕ
 descriptorAt p = p + 16
 
 abbrev pub noteAt : List ℕ → ℕ → PvhNote
-noteAt image p =
-    record {
-      entry = record { 0 = le 4 image (descriptorAt p) };
-      place = record { 0 = descriptorAt p };
-      size = noteHeaderOf image p .«n_descsz»;
-    }
+noteAt image p = noteWith image (record { 0 = descriptorAt p }) (noteHeaderOf image p .«n_descsz»)
 
 -- ---- the tests of a note, in order
 

@@ -15,9 +15,9 @@ ghost use lib.ListN.{length};
 ghost use Rattle.answers.specs.Tests.{askedAll};
 ghost use Rattle.answers.specs.declared.Gate.the-variants.{Open};
 ghost use Rattle.reading.specs.Notes.{noteHeaderOf};
-ghost use Rattle.elf.specs.NoteWalk.{turnBy, turnAt, entryOf};
+ghost use Rattle.elf.specs.NoteWalk.{turnBy, turnAt, entryOf, noteOf};
 ghost use Rattle.elf.specs.declared.notes.Turn.the-variants.{Found, Skip};
-ghost use Rattle.elf.specs.Notes.{isWanted, pvhTests, sizeTests, noteLength, noteAt, refusedNote};
+ghost use Rattle.elf.specs.Notes.{isWanted, pvhTests, sizeTests, noteLength, descriptorAt};
 use crate::ElfNote;
 use crate::NoteAnswer;
 use answers::Refusal;
@@ -31,11 +31,24 @@ use guest::PvhBootCapability;
 use guest::PvhNote;
 use reading::NoteHeader;
 
-// What one note says to the walk: it is the PVH note, or the next note is so many bytes further.
+// What one note says to the walk: it is the PVH note, with this descriptor, or the next note is so many bytes further.
 pub enum Turn {
-    Found(PvhNote),
+    Found(ImagePlace, u64),
     Skip(u64),
     Refused(Refusal),
+}
+
+// What a walk finds: where the descriptor of the PVH note begins, and its size.
+pub enum Walk {
+    Found(ImagePlace, u64),
+    NotFound,
+    Refused(Refusal),
+}
+
+// It, and how many note headers were read; a refusal has no count.
+pub struct Walked {
+    pub walk: Walk,
+    pub headers: u64,
 }
 
 // A note that is not the PVH note: both its sizes are tested, which then fit 32 bits, and it is passed over.
@@ -56,7 +69,7 @@ fn skip(note: NoteHeader) -> Turn
 // The PVH note, whose header is at an offset of the image: the size of its descriptor, then its first four bytes.
 fn pvh_note(image: &[u8], at: ImagePlace, size: u64) -> Turn
     requires { ⌜ (at .0 + 16 ≤ length (now image)) × (size ≡ noteHeaderOf (now image) (at .0) .«n_descsz») ⌝ }
-    ensures { λ r. ⌜ r ≡ turnBy (askedAll Open (pvhTests (now (image .entry)) (at .0))) (Found (noteAt (now (image .entry)) (at .0))) ⌝ }
+    ensures { λ r. ⌜ r ≡ turnBy (askedAll Open (pvhTests (now (image .entry)) (at .0))) (Found (record { 0 = descriptorAt (at .0) }) size) ⌝ }
 {
     if size < 4 {
         return Turn::Refused(Refusal::InvalidPvhNote);
@@ -65,12 +78,7 @@ fn pvh_note(image: &[u8], at: ImagePlace, size: u64) -> Turn
     if !ranges::within(image.len() as u64, place, 4) {
         return Turn::Refused(Refusal::ReadNoteHeader);
     }
-    let address = numbers::read_u32(image, place);
-    Turn::Found(PvhNote {
-        entry: GuestAddress(address),
-        place: ImagePlace(place),
-        size: size,
-    })
+    Turn::Found(ImagePlace(place), size)
 }
 
 // Do a note's type and name size say that its name has to be looked at?
@@ -103,19 +111,9 @@ fn note_at(image: &[u8], at: u64) -> Turn
     pvh_note(image, ImagePlace(at), note.n_descsz)
 }
 
-// A refusal has no count.
-fn refused(r: Refusal) -> ElfNote
-    ensures { λ n. ⌜ n ≡ refusedNote r ⌝ }
-{
-    ElfNote {
-        answer: NoteAnswer::Refused(r),
-        headers: 0,
-    }
-}
-
-// Note after note, from p_offset on, while fewer than p_filesz bytes are read: the PVH entry, and the headers read.
-pub(crate) fn entry(image: &[u8], p_offset: ImagePlace, p_filesz: u64) -> ElfNote
-    ensures { λ r. ⌜ r ≡ entryOf (now (image .entry)) «p_offset» «p_filesz» ⌝ }
+// Note after note, from p_offset on, while fewer than p_filesz bytes are read.
+fn walk_notes(image: &[u8], p_offset: ImagePlace, p_filesz: u64) -> Walked
+    ensures { λ r. ⌜ noteOf (now (image .entry)) r ≡ entryOf (now (image .entry)) «p_offset» «p_filesz» ⌝ }
 {
     let from = p_offset.0;
     let len = image.len() as u64;
@@ -123,27 +121,64 @@ pub(crate) fn entry(image: &[u8], p_offset: ImagePlace, p_filesz: u64) -> ElfNot
     let mut headers: u64 = 0;
     while read < p_filesz {
         if !ranges::within(len, from, read + 12) {
-            return refused(Refusal::ReadNoteHeader);
+            return Walked {
+                walk: Walk::Refused(Refusal::ReadNoteHeader),
+                headers: 0,
+            };
         }
         headers += 1;
         let turn = note_at(image, from + read);
         match turn {
-            Turn::Found(note) => {
-                return ElfNote {
-                    answer: NoteAnswer::Says(PvhBootCapability::PvhEntryPresent(note)),
+            Turn::Found(place, size) => {
+                return Walked {
+                    walk: Walk::Found(place, size),
                     headers: headers,
                 };
             }
             Turn::Refused(r) => {
-                return refused(r);
+                return Walked {
+                    walk: Walk::Refused(r),
+                    headers: 0,
+                };
             }
             Turn::Skip(n) => {
                 read += n;
             }
         }
     }
+    Walked {
+        walk: Walk::NotFound,
+        headers: headers,
+    }
+}
+
+// The PVH entry that the notes give, and the headers read.
+pub(crate) fn entry(image: &[u8], p_offset: ImagePlace, p_filesz: u64) -> ElfNote
+    ensures { λ r. ⌜ r ≡ entryOf (now (image .entry)) «p_offset» «p_filesz» ⌝ }
+{
+    let walked = walk_notes(image, p_offset, p_filesz);
+    let answer = walked.walk;
+    let headers = walked.headers;
+    let Walk::Found(place, size) = answer else {
+        let Walk::Refused(r) = answer else {
+            return ElfNote {
+                answer: NoteAnswer::Says(PvhBootCapability::PvhEntryNotPresent),
+                headers: headers,
+            };
+        };
+        return ElfNote {
+            answer: NoteAnswer::Refused(r),
+            headers: headers,
+        };
+    };
+    let address = numbers::read_u32(image, place.0);
+    let note = PvhNote {
+        entry: GuestAddress(address),
+        place: place,
+        size: size,
+    };
     ElfNote {
-        answer: NoteAnswer::Says(PvhBootCapability::PvhEntryNotPresent),
+        answer: NoteAnswer::Says(PvhBootCapability::PvhEntryPresent(note)),
         headers: headers,
     }
 }

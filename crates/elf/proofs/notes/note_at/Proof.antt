@@ -8,7 +8,7 @@ use Rattle.answers.specs.Tests.{askedAll}
 use Rattle.answers.specs.declared.Gate.the-variants.{Open}
 use Rattle.fields.proofs.RangesLaws.{within-sum, sum-within}
 use Rattle.reading.specs.declared.NoteHeader.{NoteHeader}
-use Rattle.elf.specs.Notes.{isWanted, noteLength, sizeTests}
+use Rattle.elf.specs.Notes.{isWanted, noteLength, descriptorAt, pvhTests, sizeTests}
 use Rattle.elf.specs.NoteWalk.{turnBy}
 use Rattle.elf.specs.declared.notes.Turn.{Turn}
 use Rattle.elf.specs.declared.notes.Turn.the-variants as turn
@@ -56,7 +56,7 @@ returns-4 c =
     let args = c .before .before .before .before .before .before .before .before .before .before .before .args in
     let image = args .image .now in
     let note = c .before .before .before .before .before .before .before .before .read-note-header .ensures ∙ note-within image (args .at) in
-    c .pvh-note .ensures
+    c .pvh-note .ensures ∙ ap (λ (n : NoteHeader). turnBy (askedAll Open (pvhTests image (args .at))) (turn.Found (record { 0 = descriptorAt (args .at) }) (n .«n_descsz»))) note
     ∙ sym (turn-pvh image (args .at) (sum-within (length image) (args .at) 12 (c .before .before .before .before .before .before .before .before .before .before .before .pre)) (sym (ap isWanted note) ∙ held (c .before .before .before .before .before .before .before .is-wanted .ensures) (c .before .before .before .before .before .before .if1 .left))
     (held (c .before .before .before .before .before .within .ensures) (c .before .before .before .before .if2 .left)) (held (c .before .before .is-tag .ensures) (c .before .if3 .left)))
 

@@ -18,13 +18,7 @@ returns-2 c = rw (← c .before .before .before .before .before .pre .1, le-leb 
 
 returns-3 : tie.Need-returns-3
 unfolding asked pick
-returns-3 c =
-    rw (
-      ← c .before .before .before .before .before .before .pre .1,
-      le-leb 4 (c .before .before .before .before .before .before .args .size) (omega (arith, c .before .before .before .before .if1 .left)),
-      held (c .before .before .within .ensures) (c .before .if2 .left),
-      c .read-u32 .ensures .value,
-    )
+returns-3 c = rw (← c .before .before .before .before .before .pre .1, le-leb 4 (c .before .before .before .before .before .args .size) (omega (arith, c .before .before .before .if1 .left)), held (c .before .within .ensures) (c .if2 .left))
 
 pub pvh-note-spec : {M : Type 1} → statement M
-pvh-note-spec = tie.close (tie.spec returns (λ c. search needs) (λ c κs. search needs) returns-2 (λ c κs. search needs) returns-3)
+pvh-note-spec = tie.close (tie.spec returns (λ c. search needs) (λ c κs. search needs) returns-2 returns-3)
