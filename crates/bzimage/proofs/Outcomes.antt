@@ -1,5 +1,5 @@
 -- Each public function permits one outcome.
-use mathlib.Core.Path.{refl}
+use mathlib.Core.Path.{refl, ap}
 use Rattle.answers.specs.Outcome.{OneOutcome}
 use Rattle.answers.proofs.Outcomes.{meet}
 use Rattle.bzimage.proofs.header.header_with.Kinds as header-with-kinds
@@ -12,7 +12,7 @@ use Rattle.bzimage.proofs.parts.part.Kinds as parts-part-kinds
 use Rattle.bzimage.proofs.parts.part.Reads as parts-part-reads
 
 pub place-one : OneOutcome 0 place-kinds.ps place-kinds.r place-reads.Post
-place-one κs a z z' ws ws' p q = (meet p q, refl)
+place-one κs a z z' ws ws' p q = (ap (λ n. record { 0 = n }) (meet p q), refl)
 
 pub header-with-one : OneOutcome 1 header-with-kinds.ps header-with-kinds.r header-with-reads.Post
 header-with-one κs a z z' ws ws' p q = (meet p q, refl)

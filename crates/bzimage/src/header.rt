@@ -20,10 +20,10 @@ pub fn header_with(image: &[u8], load: GuestAddress) -> [u8; 123]
     ensures { λ r. ⌜ r ≡ headerOf (now (image .entry)) (load .0) ⌝ }
 {
     let mut header = [0u8; 123];
-    let first = setup_header::place(setup_header::SETUP_SECTS);
+    let first = setup_header::place(setup_header::SETUP_SECTS).0;
     let from = copying::lesser(first as usize, image.len());
     copying::copy(&mut header, &image[from..]);
-    let at = setup_header::place(setup_header::CODE32_START) - first;
+    let at = setup_header::place(setup_header::CODE32_START).0 - first;
     numbers::put_le(&mut header, at, 4, load.0);
     header
 }

@@ -18,7 +18,7 @@ use guest::GuestAddress;
 fn sectors(image: &[u8]) -> u64
     ensures { λ r. ⌜ Sectors (now (image .entry)) r ⌝ }
 {
-    let said = numbers::byte_at(image, setup_header::place(setup_header::SETUP_SECTS), 0);
+    let said = numbers::byte_at(image, setup_header::place(setup_header::SETUP_SECTS).0, 0);
     if said == 0 { 4 } else { said }
 }
 
@@ -45,5 +45,5 @@ pub(crate) fn kernel_size(image: &[u8]) -> u64
 pub(crate) fn code32_start(image: &[u8]) -> GuestAddress
     ensures { λ r. ⌜ r ≡ startOf (now (image .entry)) ⌝ }
 {
-    GuestAddress(numbers::read_u32(image, setup_header::place(setup_header::CODE32_START)))
+    GuestAddress(numbers::read_u32(image, setup_header::place(setup_header::CODE32_START).0))
 }

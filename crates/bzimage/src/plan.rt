@@ -42,9 +42,9 @@ fn validate(image: &[u8], memory: Memory, offset: Given, highmem: Given) -> Gate
     ensures { λ r. ⌜ r ≡ askedAll Open (tests (now (image .entry)) memory offset highmem) ⌝ }
 {
     let len = image.len() as u64;
-    let magic = numbers::read_u32(image, setup_header::place(setup_header::HEADER));
-    let version = numbers::read_u16(image, setup_header::place(setup_header::VERSION));
-    let flags = numbers::byte_at(image, setup_header::place(setup_header::LOADFLAGS), 0);
+    let magic = numbers::read_u32(image, setup_header::place(setup_header::HEADER).0);
+    let version = numbers::read_u16(image, setup_header::place(setup_header::VERSION).0);
+    let flags = numbers::byte_at(image, setup_header::place(setup_header::LOADFLAGS).0, 0);
     let setup = kernel::setup_size(image);
     let start = kernel::code32_start(image);
     let load = addresses::given_or(offset, start);

@@ -3,6 +3,7 @@ ghost use mathlib.Core.Path.{_≡_};
 ghost use Rattle.bzimage.specs.SetupHeader.{placeOf};
 use fields::copying;
 use fields::numbers;
+use guest::ImagePlace;
 
 // The sizes of the thirty-nine fields, in order.
 const SIZES: [u8; 39] = [
@@ -59,8 +60,8 @@ pub const LOADFLAGS: usize = 14;
 pub const CODE32_START: usize = 16;
 
 // Where a field stands in the image: the sizes before it, summed. A number past the last field gives the header's end.
-pub fn place(field: usize) -> u64
-    ensures { λ r. ⌜ r ≡ placeOf field ⌝ }
+pub fn place(field: usize) -> ImagePlace
+    ensures { λ r. ⌜ r .0 ≡ placeOf field ⌝ }
 {
     let count = copying::lesser(field, 39);
     let mut at: u64 = 0x1F1;
@@ -69,5 +70,5 @@ pub fn place(field: usize) -> u64
         at += numbers::wide(SIZES[i]);
         i += 1;
     }
-    at
+    ImagePlace(at)
 }

@@ -20,7 +20,7 @@ use Rattle.guest.specs.declared.Map.{Map}
 use Rattle.guest.specs.declared.Memory.{Memory}
 use Rattle.guest.specs.declared.Part.{Part}
 use Rattle.elf.specs.Load.{noteNumber, noteValues}
-use Rattle.elf.specs.Notes.{publicNote}
+use Rattle.elf.specs.NoteWalk.{publicNote}
 use Rattle.elf.specs.declared.ElfNote.{ElfNote}
 use Rattle.bzimage.specs.Header.{headerOf}
 use Rattle.loads.specs.Formats.{answerOf, countOf, partOf, LoadSays}

@@ -18,7 +18,7 @@ use Rattle.guest.specs.Stream.{pour}
 use Rattle.guest.specs.declared.Map.{Map}
 use Rattle.guest.specs.declared.Memory.{Memory}
 use Rattle.elf.specs.Load.{noteNumber, noteValues}
-use Rattle.elf.specs.Notes.{publicNote}
+use Rattle.elf.specs.NoteWalk.{publicNote}
 use Rattle.bzimage.specs.Header.{headerOf}
 use Rattle.bzimage.specs.SetupHeader.{headerSize}
 use Rattle.loads.specs.Formats.{answerOf, countOf, partOf, planOf}

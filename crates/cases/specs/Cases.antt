@@ -13,7 +13,8 @@ use Rattle.guest.specs.Stream.{pour}
 use Rattle.guest.specs.declared.Given.{Given}
 use Rattle.guest.specs.declared.Given.the-variants.{Nothing, At}
 use Rattle.elf.specs.Header.{magic}
-use Rattle.elf.specs.Notes.{xen, publicNote}
+use Rattle.elf.specs.Notes.{xen}
+use Rattle.elf.specs.NoteWalk.{publicNote}
 use Rattle.elf.specs.Load.{noteNumber, noteValues}
 use Rattle.guest.specs.Answers.{pvhCode, answerNumber, answerValues}
 use Rattle.guest.specs.declared.Answer.{Answer}

@@ -1,91 +1,54 @@
 -- "A load answers with success exactly when every rule holds for every header, whichever order they are asked in": rules-accept and
 -- accept-rules.
 use Prim.Native.Nat.{ℕ, zero, suc, _+_, _<_}
-use mathlib.Core.Path.{_≡_, refl}
+use mathlib.Core.Path.{_≡_, refl, subst⁻¹}
 use mathlib.Core.Bool.{Bool, true, false}
 use mathlib.Core.List.{List}
 use native.Mathlib.Omega.{arith}
-use borrow.Author.Tests.{eqb-true, eqb-false}
+use borrow.Author.Tests.{eqb-true, eqb-false, le-leb}
 use lib.Dec.{leb}
 use lib.ListN.{length}
-use Rattle.answers.specs.Pick.{pick}
-use Rattle.answers.specs.declared.Refusal.{Refusal}
+use Rattle.answers.specs.Tests.{Test, askedAll, AllHold}
+use Rattle.answers.specs.declared.Gate.{Gate}
+use Rattle.answers.specs.declared.Gate.the-variants.{Open}
 use Rattle.answers.proofs.PickLaws.{pick-with}
-use Rattle.fields.specs.Ranges.{fits64}
+use Rattle.answers.proofs.TestsLaws.{open-all, all-open}
 use Rattle.guest.specs.Addresses.{amountOf, isGiven}
+use Rattle.guest.specs.Room.{room}
 use Rattle.guest.specs.declared.Given.{Given}
+use Rattle.guest.specs.declared.GuestAddress.{GuestAddress}
 use Rattle.guest.specs.declared.Memory.{Memory}
 use Rattle.elf.specs.ProgramHeaders.{headerOf}
-use Rattle.elf.specs.Notes.{entryOf}
-use Rattle.elf.specs.Survey.{endStep, segmentStep, memoryStep, kindStep, loadStep, saidStep, noteStep, stepOf}
+use Rattle.elf.specs.NoteWalk.{entryOf}
+use Rattle.elf.specs.Survey.{segmentTests, memoryTests, endOf, stepBy, loadStep, saidStep, noteStep, stepOf}
 use Rattle.elf.specs.Pouring.{planOf}
 use Rattle.elf.specs.Verdict.{Passes, passes, Verdict, accepted, Accepted, is-accepted}
-use Rattle.elf.specs.Rules.{SegmentRules, SegmentFits, MemoryRules, NotesSay, notes-say, HeaderRules, Rules}
+use Rattle.elf.specs.Rules.{SegmentFits, MemoryRules, NotesSay, notes-say, HeaderRules, Rules}
 use Rattle.guest.specs.declared.Answer.{Answer}
 use Rattle.elf.specs.declared.NoteAnswer.{NoteAnswer}
 use Rattle.elf.specs.declared.NoteAnswer.the-variants as answer
 use Rattle.elf.specs.declared.program_headers.ProgramHeader.{ProgramHeader}
 use Rattle.elf.specs.declared.survey.Step.{Step}
-use Rattle.elf.specs.declared.survey.Step.the-variants.{Pass, Stop}
-use Rattle.elf.specs.declared.survey.Effect.{Effect}
 use Rattle.elf.proofs.Verdicts.{none-decides, verdict}
 
 -- ---- one program header passes exactly where its rules hold
 
--- what is so where a step passes
-data If (P : Type 0) : Step → Type 0 where
-  passed : {e : Effect} → P → If P (Pass e)
-  refused : {r : Refusal} → If P (Stop r)
+passes-open : (gate : Gate) (end : GuestAddress) → Passes (stepBy gate end) → gate ≡ Open
+passes-open Open end passes = refl
 
-if-passed : {P : Type 0} {t : Step} → If P t → Passes t → P
-if-passed (passed p) passes = p
+hold-passes : (ts : List Test) (end : GuestAddress) → AllHold ts → Passes (stepBy (askedAll Open ts) end)
+hold-passes ts end hold = subst⁻¹ (λ (gate : Gate). Passes (stepBy gate end)) (all-open ts hold) passes
 
--- a test that refuses where it fails, and rules behind it
-if-tested : {P : Type 0} (b : Bool) (t : Step) (r : Refusal) → (b ≡ true → If P t) → If P (pick b t (Stop r))
-if-tested {P} b t r behind = pick-with (If P) b behind (λ _. refused)
+said-passes : {said : NoteAnswer} → NotesSay said → Passes (saidStep said)
+said-passes notes-say = passes
 
-end-if : (at size : ℕ) → If (fits64 at size ≡ true) (endStep at size)
-unfolding endStep
-end-if at size = if-tested (fits64 at size) _ _ (λ e. passed e)
+passes-said : (said : NoteAnswer) → Passes (saidStep said) → NotesSay said
+passes-said (answer.Says cap) passes = notes-say
 
-if-end : (at size : ℕ) → fits64 at size ≡ true → Passes (endStep at size)
-unfolding endStep pick
-if-end at size e = rw e passes
-
-if-as : {P Q : Type 0} {t : Step} → (P → Q) → If P t → If Q t
-if-as f (passed p) = passed (f p)
-if-as f refused = refused
-
-segment-if : (imageLength : ℕ) (m : Memory) (shift : ℕ) (h : ProgramHeader) → If (SegmentRules imageLength m shift h) (segmentStep imageLength m shift h)
-unfolding segmentStep
-segment-if imageLength m shift h =
-    if-tested _ _ _ (λ a. if-tested _ _ _ (λ b. if-tested _ _ _ (λ c.
-    if-as (λ d. record { address-fits = a; in-image = b; in-guest = c; end-fits = d }) (end-if (shift + h .«p_paddr» .0) (h .«p_memsz»)))))
-
-if-segment : (imageLength : ℕ) (m : Memory) (shift : ℕ) (h : ProgramHeader) → SegmentRules imageLength m shift h → Passes (segmentStep imageLength m shift h)
-unfolding segmentStep pick
-if-segment imageLength m shift h r =
-    rw (r .address-fits, r .in-image, r .in-guest) (if-end (shift + h .«p_paddr» .0) (h .«p_memsz») (r .end-fits))
-
-memory-if : (shift : ℕ) (h : ProgramHeader) → If (MemoryRules shift h) (memoryStep shift h)
-unfolding memoryStep
-memory-if shift h = if-tested _ _ _ (λ a. if-as (λ d. record { address-fits = a; end-fits = d }) (end-if (shift + h .«p_paddr» .0) (h .«p_memsz»)))
-
-if-memory : (shift : ℕ) (h : ProgramHeader) → MemoryRules shift h → Passes (memoryStep shift h)
-unfolding memoryStep pick
-if-memory shift h r = rw (r .address-fits) (if-end (shift + h .«p_paddr» .0) (h .«p_memsz») (r .end-fits))
-
-said-if : (said : NoteAnswer) → If (NotesSay said) (saidStep said)
-said-if (answer.Says cap) = passed notes-say
-said-if (answer.Refused r) = refused
-
-if-said : {said : NoteAnswer} → NotesSay said → Passes (saidStep said)
-if-said notes-say = passes
-
-both-ways : {b : Bool} → b ≡ true → b ≡ false → ⊥
+pub both-ways : {b : Bool} → b ≡ true → b ≡ false → ⊥
 both-ways e f = let w : _≡_ {A = ℕ} 0 1 = cc in omega arith
 
-positive : (n : ℕ) → (n ≡ 0 → ⊥) → 0 < n
+pub positive : (n : ℕ) → (n ≡ 0 → ⊥) → 0 < n
 positive zero z = absurd (z refl)
 positive (suc n) z = omega arith
 
@@ -96,11 +59,15 @@ module _ (image : List ℕ) (m : Memory) (offset : Given) (h : ProgramHeader) wh
   abbrev shift : ℕ
   shift = amountOf offset
 
-  abbrev Sized : Type 0
-  Sized = leb (h .«p_filesz») (h .«p_memsz») ≡ true
+  abbrev row : List Test
+  row = segmentTests (length image) (room m) shift h
+
+  -- if it passes, its rules hold
+  abbrev Ruled : Step → Type 0
+  Ruled t = Passes t → Rule
 
   -- the rules of a program header, by its type
-  loadable : h .«p_type» ≡ 1 → Sized → SegmentFits (length image) m shift h
+  loadable : h .«p_type» ≡ 1 → leb (h .«p_filesz») (h .«p_memsz») ≡ true → SegmentFits (length image) m shift h
       → (h .«p_type» ≡ 1 → h .«p_filesz» ≡ 0 → 0 < h .«p_memsz» → MemoryRules shift h) → Rule
   loadable is-1 sized file memory = record { sizes = λ _. sized; segment = file; memory = memory; notes = λ is-4 _. absurd (omega arith) }
 
@@ -108,54 +75,46 @@ module _ (image : List ℕ) (m : Memory) (offset : Given) (h : ProgramHeader) wh
   other-type not-1 notes =
       record { sizes = λ is-1. absurd (not-1 is-1); segment = λ is-1 _. absurd (not-1 is-1); memory = λ is-1 _ _. absurd (not-1 is-1); notes = notes }
 
-  kind-if : h .«p_type» ≡ 1 → Sized → If Rule (kindStep (length image) m shift h)
-  unfolding kindStep
-  kind-if is-1 sized =
-      pick-with (If Rule) _
-      (λ no-file. let none = eqb-true (h .«p_filesz») 0 no-file in pick-with (If Rule) _
-      (λ no-memory. let empty = eqb-true (h .«p_memsz») 0 no-memory in passed (loadable is-1 sized (λ _ some. absurd (omega arith)) (λ _ _ some. absurd (omega arith))))
-      (λ _. if-as (λ rules. loadable is-1 sized (λ _ some. absurd (omega arith)) (λ _ _ _. rules)) (memory-if shift h)))
-      (λ file. let some = eqb-false (h .«p_filesz») 0 file in
-      if-as (λ rules. loadable is-1 sized (λ _ _. rules) (λ _ none _. absurd (some none))) (segment-if (length image) m shift h))
-
-  load-if : h .«p_type» ≡ 1 → If Rule (loadStep (length image) m shift h)
+  load-ruled : h .«p_type» ≡ 1 → Ruled (loadStep (length image) (room m) shift h)
   unfolding loadStep
-  load-if is-1 = if-tested _ _ _ (λ sized. kind-if is-1 sized)
+  load-ruled is-1 =
+      pick-with Ruled _
+      (λ no-file. let none = eqb-true (h .«p_filesz») 0 no-file in let sized = le-leb (h .«p_filesz») (h .«p_memsz») (omega arith) in
+      pick-with Ruled _
+      (λ no-memory _. let empty = eqb-true (h .«p_memsz») 0 no-memory in loadable is-1 sized (λ _ some. absurd (omega arith)) (λ _ _ some. absurd (omega arith)))
+      (λ _ p. let all = open-all (memoryTests shift h) (passes-open _ _ p) in
+      loadable is-1 sized (λ _ some. absurd (omega arith)) (λ _ _ _. record { address-fits = all .0; end-fits = all .1 .0 })))
+      (λ file p. let some = eqb-false (h .«p_filesz») 0 file in let all = open-all row (passes-open _ _ p) in
+      loadable is-1 (all .0)
+      (λ _ _. record { address-fits = all .1 .0; in-image = all .1 .1 .0; in-guest = all .1 .1 .1 .0; end-fits = all .1 .1 .1 .1 .0 })
+      (λ _ none _. absurd (some none)))
 
-  note-if : (h .«p_type» ≡ 1 → ⊥) → If Rule (noteStep image offset h)
-  unfolding noteStep
-  note-if not-1 =
-      pick-with (If Rule) _ (λ given. passed (other-type not-1 (λ _ none. absurd (both-ways given none))))
-      (λ _. if-as (λ says. other-type not-1 (λ _ _. says)) (said-if (entryOf image (h .«p_offset») (h .«p_filesz») .answer)))
-
-  step-if : If Rule (stepOf image m offset h)
-  unfolding stepOf
-  step-if =
-      pick-with (If Rule) _ (λ one. load-if (eqb-true (h .«p_type») 1 one))
+  passes-rules : Ruled (stepOf image (room m) offset h)
+  unfolding stepOf noteStep
+  passes-rules =
+      pick-with Ruled _ (λ one. load-ruled (eqb-true (h .«p_type») 1 one))
       (λ other. let not-1 = eqb-false (h .«p_type») 1 other in
-      pick-with (If Rule) _ (λ _. note-if not-1) (λ other'. passed (other-type not-1 (λ is-4 _. absurd (eqb-false (h .«p_type») 4 other' is-4)))))
+      pick-with Ruled _
+      (λ _. pick-with Ruled _ (λ given _. other-type not-1 (λ _ none. absurd (both-ways given none)))
+      (λ _ p. other-type not-1 (λ _ _. passes-said (entryOf image (h .«p_offset») (h .«p_filesz») .answer) p)))
+      (λ other' _. other-type not-1 (λ is-4 _. absurd (eqb-false (h .«p_type») 4 other' is-4))))
 
-  passes-rules : Passes (stepOf image m offset h) → Rule
-  passes-rules = if-passed step-if
-
-  if-kind : Rule → h .«p_type» ≡ 1 → Passes (kindStep (length image) m shift h)
-  unfolding kindStep
-  if-kind rule is-1 =
+  load-passes : Rule → h .«p_type» ≡ 1 → Passes (loadStep (length image) (room m) shift h)
+  unfolding loadStep
+  load-passes rule is-1 =
       pick-with Passes _
       (λ no-file. pick-with Passes _ (λ _. passes)
-      (λ memory. if-memory shift h (rule .memory is-1 (eqb-true (h .«p_filesz») 0 no-file) (positive (h .«p_memsz») (eqb-false (h .«p_memsz») 0 memory)))))
-      (λ file. if-segment (length image) m shift h (rule .segment is-1 (positive (h .«p_filesz») (eqb-false (h .«p_filesz») 0 file))))
+      (λ memory. let r = rule .memory is-1 (eqb-true (h .«p_filesz») 0 no-file) (positive (h .«p_memsz») (eqb-false (h .«p_memsz») 0 memory)) in
+      hold-passes (memoryTests shift h) (endOf shift h) (r .address-fits, (r .end-fits, tt))))
+      (λ file. let r = rule .segment is-1 (positive (h .«p_filesz») (eqb-false (h .«p_filesz») 0 file)) in
+      hold-passes row (endOf shift h) (rule .sizes is-1, (r .address-fits, (r .in-image, (r .in-guest, (r .end-fits, tt))))))
 
-  if-load : Rule → h .«p_type» ≡ 1 → Passes (loadStep (length image) m shift h)
-  unfolding loadStep pick
-  if-load rule is-1 = rw (rule .sizes is-1) (if-kind rule is-1)
-
-  rules-pass : Rule → Passes (stepOf image m offset h)
+  rules-pass : Rule → Passes (stepOf image (room m) offset h)
   unfolding stepOf noteStep
   rules-pass rule =
-      pick-with Passes _ (λ one. if-load rule (eqb-true (h .«p_type») 1 one))
+      pick-with Passes _ (λ one. load-passes rule (eqb-true (h .«p_type») 1 one))
       (λ _. pick-with Passes _
-      (λ four. pick-with Passes _ (λ _. passes) (λ none. if-said (rule .notes (eqb-true (h .«p_type») 4 four) none)))
+      (λ four. pick-with Passes _ (λ _. passes) (λ none. said-passes (rule .notes (eqb-true (h .«p_type») 4 four) none)))
       (λ _. passes))
 
 -- ---- the whole load

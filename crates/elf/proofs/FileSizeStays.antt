@@ -1,11 +1,12 @@
 -- "Demand 3 counts 14 among the refusals that more room does not lift": a segment with more bytes in the file than in memory is refused the
 -- same, however guest memory grows, the image is lengthened, or both.
 use Prim.Native.Nat.{ℕ, _≤_}
-use mathlib.Core.Path.{_≡_, sym, _∙_, ap}
+use mathlib.Core.Path.{_≡_, sym, _∙_, ap, subst}
 use mathlib.Core.Bool.{true}
 use mathlib.Core.List.{List, _++_}
 use native.Mathlib.Omega.{arith}
 use lib.ListN.{length}
+use Rattle.answers.specs.Listing.{contains}
 use Rattle.answers.specs.declared.Refusal.{Refusal}
 use Rattle.answers.specs.declared.Refusal.the-variants.{InvalidProgramHeaderFileSize}
 use Rattle.answers.proofs.KeepingLaws.{kept}
@@ -18,20 +19,18 @@ use Rattle.guest.specs.declared.Map.{Map}
 use Rattle.guest.proofs.LoadingLaws.{LiftPlan}
 use Rattle.guest.proofs.RoomLaws.{allowed-longer}
 use Rattle.elf.specs.Load.{LoadSays}
-use Rattle.elf.specs.Lengthening.{ForBytes, header, program-header, segment, note, ForRoom}
+use Rattle.elf.specs.Lengthening.{ForBytes, ForRoom}
 use Rattle.guest.specs.declared.Answer.{Answer}
 use Rattle.guest.specs.declared.Answer.the-variants.{Refused}
 use Rattle.elf.proofs.MoreMemory.{plan-keeps, image-longer, both-grow}
 
 -- it is of no kind that may lift
 not-bytes : {r : Refusal} → ForBytes r → r ≡ InvalidProgramHeaderFileSize → ⊥
-not-bytes header e = let w : _≡_ {A = ℕ} 0 1 = cc in omega arith
-not-bytes program-header e = let w : _≡_ {A = ℕ} 0 1 = cc in omega arith
-not-bytes segment e = let w : _≡_ {A = ℕ} 0 1 = cc in omega arith
-not-bytes note e = let w : _≡_ {A = ℕ} 0 1 = cc in omega arith
+unfolding contains
+not-bytes for e = let found = subst ForBytes e for in let w : _≡_ {A = ℕ} 0 1 = cc in omega arith
 
 not-room : {r : Refusal} → ForRoom r → r ≡ InvalidProgramHeaderFileSize → ⊥
-not-room segment e = let w : _≡_ {A = ℕ} 0 1 = cc in omega arith
+not-room for e = let w : _≡_ {A = ℕ} 0 1 = cc in omega arith
 
 same-refusal : {r : Refusal} → Refused InvalidProgramHeaderFileSize ≡ Refused r → r ≡ InvalidProgramHeaderFileSize
 same-refusal e = cc

@@ -15,6 +15,7 @@ use Rattle.fields.specs.Numbers.{le}
 use Rattle.fields.proofs.AgreementLaws.{agree-within, agree-le, agree-tag}
 use Rattle.guest.specs.Addresses.{amountOf, isGiven}
 use Rattle.guest.specs.Parts.{noPart}
+use Rattle.guest.specs.Room.{room}
 use Rattle.guest.specs.declared.Given.{Given}
 use Rattle.guest.specs.declared.Memory.{Memory}
 use Rattle.guest.proofs.LoadingLaws.{answer-same}
@@ -23,10 +24,11 @@ use Rattle.elf.specs.Header.{magic, e-phoff, e-phnum, programHeaderSize,
 use Rattle.elf.specs.Parts.{partAt, partOf}
 use Rattle.elf.specs.Pouring.{surveyPlan, planOf}
 use Rattle.elf.specs.ProgramHeaders.{headerPlace, headerAt, headerOf}
-use Rattle.elf.specs.Survey.{noteStep, saidStep, stepOf, afterStep, advanced, surveyFrom, surveyOf, blank, loadAddress}
+use Rattle.elf.specs.Survey.{Rooms, noteStep, saidStep, stepOf, afterStep, advanced, surveyFrom, surveyOf, blank, loadAddress}
 use Rattle.guest.specs.declared.Answer.{Answer}
 use Rattle.guest.specs.declared.Answer.the-variants.{Refused}
 use Rattle.guest.specs.declared.KernelLoaderResult.{KernelLoaderResult}
+use Rattle.elf.specs.declared.ElfNote.{ElfNote}
 use Rattle.elf.specs.declared.program_headers.ProgramHeader.{ProgramHeader}
 use Rattle.elf.specs.declared.survey.Effect.{Effect}
 use Rattle.elf.specs.declared.survey.Step.{Step}
@@ -63,38 +65,39 @@ module _ (s t : List ℕ) (offset : Given) (same : SameFootprint s t offset) whe
 
   -- ---- the answer
 
-  module _ (m : Memory) where
+  module _ (hasRoom : Rooms) where
     -- what a program header says, which the footprint has
-    said-same : (h : ProgramHeader) → (isGiven offset ≡ false → SameNotes s t h) → stepOf s m offset h ≡ stepOf t m offset h
+    said-same : (h : ProgramHeader) → (isGiven offset ≡ false → SameNotes s t h) → stepOf s hasRoom offset h ≡ stepOf t hasRoom offset h
     unfolding stepOf noteStep
     said-same h notes =
         rw (same .lengths)
         (pick-both _≡_ (eqb (h .«p_type») 1) (λ _. refl)
         (λ _. pick-both _≡_ (eqb (h .«p_type») 4)
         (λ is. pick-both _≡_ (isGiven offset) (λ _. refl)
-        (λ none. ap saidStep (entry-same s t (same .lengths) (h .«p_offset») (h .«p_filesz») (notes none (eqb-true (h .«p_type») 4 is)))))
+        (λ none. ap (λ (n : ElfNote). saidStep (n .answer)) (entry-same s t (same .lengths) (h .«p_offset») (h .«p_filesz») (notes none (eqb-true (h .«p_type») 4 is)))))
         (λ _. refl)))
 
-    step-same : (j : ℕ) → j < e-phnum s → stepOf s m offset (headerOf s j) ≡ stepOf t m offset (headerOf t j)
-    step-same j lt = said-same (headerOf s j) (λ none. same .notes none j lt) ∙ ap (stepOf t m offset) (header-same j lt)
+    step-same : (j : ℕ) → j < e-phnum s → stepOf s hasRoom offset (headerOf s j) ≡ stepOf t hasRoom offset (headerOf t j)
+    step-same j lt = said-same (headerOf s j) (λ none. same .notes none j lt) ∙ ap (stepOf t hasRoom offset) (header-same j lt)
 
-    survey-same : (n i : ℕ) (result : KernelLoaderResult) → i + n ≤ e-phnum s → surveyFrom n s m offset i result ≡ surveyFrom n t m offset i result
+    survey-same : (n i : ℕ) (result : KernelLoaderResult) → i + n ≤ e-phnum s → surveyFrom n s hasRoom offset i result ≡ surveyFrom n t hasRoom offset i result
     unfolding surveyFrom
     survey-same zero i result h = refl
     survey-same (suc n) i result h =
-        ap (λ (x : Step). afterStep x (λ e. surveyFrom n s m offset (suc i) (advanced result e))) (step-same i (omega arith))
-        ∙ by (stepOf t m offset (headerOf t i)) (λ e. survey-same n (suc i) (advanced result e) (omega arith))
+        ap (λ (x : Step). afterStep x (λ e. surveyFrom n s hasRoom offset (suc i) (advanced result e))) (step-same i (omega arith))
+        ∙ by (stepOf t hasRoom offset (headerOf t i)) (λ e. survey-same n (suc i) (advanced result e) (omega arith))
       where
         by : {more more' : Effect → Answer} (x : Step) → ((e : Effect) → more e ≡ more' e) → afterStep x more ≡ afterStep x more'
         by (Pass e) rest = rest e
         by (Stop r) rest = refl
 
-    all-same : surveyOf s m offset ≡ surveyOf t m offset
+    all-same : surveyOf s hasRoom offset ≡ surveyOf t hasRoom offset
     all-same =
         survey-same (e-phnum s) 0 (blank (loadAddress s offset)) (omega arith)
-        ∙ ap (λ n. surveyFrom n t m offset 0 (blank (loadAddress s offset))) phnum-same
-        ∙ ap (λ entry. surveyFrom (e-phnum t) t m offset 0 (blank (record { 0 = amountOf offset + entry }))) (field-same 8 24 (omega arith))
+        ∙ ap (λ n. surveyFrom n t hasRoom offset 0 (blank (loadAddress s offset))) phnum-same
+        ∙ ap (λ entry. surveyFrom (e-phnum t) t hasRoom offset 0 (blank (record { 0 = amountOf offset + entry }))) (field-same 8 24 (omega arith))
 
+  module _ (m : Memory) where
     tests-same : (highmem : Given) → tests s m offset highmem ≡ tests t m offset highmem
     tests-same highmem =
         rw (
@@ -108,7 +111,7 @@ module _ (s t : List ℕ) (offset : Given) (same : SameFootprint s t offset) whe
         )
 
     pub plan-same : (highmem : Given) → planOf s m offset highmem .answer ≡ planOf t m offset highmem .answer
-    plan-same highmem = answer-same Refused (surveyPlan s offset (surveyOf s m offset)) (surveyPlan t offset (surveyOf t m offset)) (tests-same highmem) all-same
+    plan-same highmem = answer-same Refused (surveyPlan s offset (surveyOf s (room m) offset)) (surveyPlan t offset (surveyOf t (room m) offset)) (tests-same highmem) (all-same (room m))
 
   -- ---- the parts
 

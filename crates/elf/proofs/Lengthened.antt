@@ -11,28 +11,31 @@ use borrow.Author.Tests.{leb-true}
 use lib.Dec.{leb}
 use lib.ListN.{length, drop, length-drop}
 use lib.Seq.{take-append-le, drop-append-le}
+use Rattle.answers.specs.Listing.{contains}
 use Rattle.answers.specs.Tests.{AllHold}
-use Rattle.answers.specs.Keeping.{Keeps, same, lifted, Widens, end, stays, grows}
+use Rattle.answers.specs.Keeping.{Keeps, same, lifted, ShutBy, shut-by, Widens, end, stays, grows}
+use Rattle.answers.specs.declared.Gate.{Gate}
 use Rattle.answers.specs.declared.Refusal.{Refusal}
 use Rattle.answers.specs.declared.Refusal.the-variants.{ReadElfHeader, ReadProgramHeader, ReadKernelImage, ReadNoteHeader}
-use Rattle.answers.proofs.KeepingLaws.{equal, pick-grows, pick-same, leb-grows, widens-append, widens-same}
+use Rattle.answers.proofs.KeepingLaws.{equal, pick-same, leb-grows, row-keeps, widens-append, widens-same}
 use Rattle.fields.proofs.NumbersLaws.{le-append}
 use Rattle.fields.proofs.RangesLaws.{within-sum}
 use Rattle.fields.proofs.TagsLaws.{tag-append}
 use Rattle.guest.specs.Addresses.{amountOf}
 use Rattle.guest.specs.Lent.{lentTests}
 use Rattle.guest.specs.Loading.{RefusedFor}
-use Rattle.guest.specs.Room.{Grows}
+use Rattle.guest.specs.Room.{Grows, room}
 use Rattle.guest.specs.declared.Given.{Given}
+use Rattle.guest.specs.declared.GuestAddress.{GuestAddress}
 use Rattle.guest.specs.declared.Memory.{Memory}
 use Rattle.guest.proofs.LoadingLaws.{LiftPlan, behind-keeps}
 use Rattle.elf.specs.Header.{headerSize, programHeaderSize, magic, e-phoff, e-phnum, standWithin, lengthTests, fileTests, entryTests, standTests, fieldTests, tests}
 use Rattle.elf.specs.ProgramHeaders.{headerPlace, headerAt, headerOf, HeadersStand}
-use Rattle.elf.specs.Survey.{segmentStep, kindStep, loadStep, saidStep, noteStep, stepOf, advanced, blank, afterStep, surveyFrom, loadAddress, surveyOf}
+use Rattle.elf.specs.Survey.{segmentTests, endOf, stepBy, loadStep, saidStep, noteStep, stepOf, advanced, blank, afterStep, surveyFrom, loadAddress, surveyOf}
 use Rattle.elf.specs.Pouring.{segmentStream, streamFrom, wholeStream, ifLoaded, surveyPlan, planOf}
 use Rattle.elf.specs.Verdict.{Accepted, is-accepted}
 use Rattle.elf.specs.Rules.{SegmentFits}
-use Rattle.elf.specs.Lengthening.{ForBytes, header, program-header, segment, note}
+use Rattle.elf.specs.Lengthening.{ForBytes}
 use Rattle.guest.specs.declared.KernelLoaderResult.{KernelLoaderResult}
 use Rattle.guest.specs.declared.Answer.{Answer}
 use Rattle.guest.specs.declared.Answer.the-variants.{Loaded, Refused}
@@ -45,9 +48,25 @@ use Rattle.elf.proofs.HeaderLaws.{stand-grows, header-stands, headers-s
 use Rattle.elf.proofs.Verdicts.{by-headers}
 use Rattle.elf.proofs.PouringLaws.{stream-none, stream-empty, stream-loads}
 use Rattle.elf.proofs.FitsLaws.{accepted-stand, accepted-fit}
-use Rattle.elf.proofs.NotesLengthened.{LiftSaid, lift-said, longer, as-long, pick-image, entry-longer}
+use Rattle.elf.proofs.NotesLengthened.{LiftSaid, lift-said, longer, as-long, image-widens, entry-longer}
 
 -- ---- the kinds that may lift, from a program header up to the plan
+
+for-header : ForBytes ReadElfHeader
+unfolding contains
+for-header = refl
+
+for-program-header : ForBytes ReadProgramHeader
+unfolding contains
+for-program-header = refl
+
+pub for-segment : ForBytes ReadKernelImage
+unfolding contains
+for-segment = refl
+
+for-note : ForBytes ReadNoteHeader
+unfolding contains
+for-note = refl
 
 module _ (Lifts : Refusal → Type 0) where
   data LiftStep : Step → Type 0 where
@@ -57,6 +76,10 @@ module _ (Lifts : Refusal → Type 0) where
   LiftAnswer = RefusedFor Refused Lifts
 
   -- what follows each of them
+
+  gate-after : {x x' : Gate} (at : GuestAddress) → Keeps (ShutBy Lifts) x x' → Keeps LiftStep (stepBy x at) (stepBy x' at)
+  gate-after at same = same
+  gate-after at (lifted (shut-by l)) = lifted (lift-step l)
 
   said-after : {x x' : NoteAnswer} → Keeps (LiftSaid Lifts) x x' → Keeps LiftStep (saidStep x) (saidStep x')
   said-after same = same
@@ -122,35 +145,29 @@ module _ (s t : List ℕ) (Lifts : Refusal → Type 0) (lifts : (r : Refusal) �
   -- ---- program headers, with more guest memory too
 
   module _ (m m' : Memory) (more-memory : Grows m m') (lifts-room : Lifts ReadKernelImage) (offset highmem : Given) where
-    segment-longer : (shift : ℕ) (h : ProgramHeader) → Keeps (LiftStep Lifts) (segmentStep (length s) m shift h) (segmentStep (length (s ++ t)) m' shift h)
-    unfolding segmentStep
+    segment-longer : (shift : ℕ) (h : ProgramHeader) → Widens Lifts (segmentTests (length s) (room m) shift h) (segmentTests (length (s ++ t)) (room m') shift h)
     segment-longer shift h =
-        pick-same (LiftStep Lifts) _ _ refl
-        (λ _. pick-image s t (LiftStep Lifts) (h .«p_offset» .0) (h .«p_filesz») (lifts ReadKernelImage segment) lift-step
-        (λ _. pick-grows (LiftStep Lifts) _ _ (more-memory .rooms _ _) (λ _. same) (lift-step lifts-room)))
-        (λ _. same)
+        stays refl
+        (λ _. stays refl
+        (λ _. image-widens s t Lifts ReadKernelImage (lifts ReadKernelImage for-segment) (h .«p_offset» .0) (h .«p_filesz»)
+        (λ _. grows (more-memory .rooms _ _) lifts-room (λ _. stays refl (λ _. end)))))
 
-    kind-longer : (shift : ℕ) (h : ProgramHeader) → Keeps (LiftStep Lifts) (kindStep (length s) m shift h) (kindStep (length (s ++ t)) m' shift h)
-    unfolding kindStep
-    kind-longer shift h = pick-same (LiftStep Lifts) _ _ refl (λ _. same) (λ _. segment-longer shift h)
-
-    -- the refusal of a file size above the memory size never lifts
-    load-longer : (shift : ℕ) (h : ProgramHeader) → Keeps (LiftStep Lifts) (loadStep (length s) m shift h) (loadStep (length (s ++ t)) m' shift h)
+    load-longer : (shift : ℕ) (h : ProgramHeader) → Keeps (LiftStep Lifts) (loadStep (length s) (room m) shift h) (loadStep (length (s ++ t)) (room m') shift h)
     unfolding loadStep
-    load-longer shift h = pick-same (LiftStep Lifts) _ _ refl (λ _. kind-longer shift h) (λ _. same)
+    load-longer shift h = pick-same (LiftStep Lifts) _ _ refl (λ _. same) (λ _. gate-after Lifts (endOf shift h) (row-keeps Lifts (segment-longer shift h)))
 
     note-longer : (h : ProgramHeader) → Keeps (LiftStep Lifts) (noteStep s offset h) (noteStep (s ++ t) offset h)
     unfolding noteStep
-    note-longer h = pick-same (LiftStep Lifts) _ _ refl (λ _. same) (λ _. said-after Lifts (entry-longer s t Lifts (lifts ReadNoteHeader note) (h .«p_offset») (h .«p_filesz»)))
+    note-longer h = pick-same (LiftStep Lifts) _ _ refl (λ _. same) (λ _. said-after Lifts (entry-longer s t Lifts (lifts ReadNoteHeader for-note) (h .«p_offset») (h .«p_filesz»)))
 
-    step-longer : (h : ProgramHeader) → Keeps (LiftStep Lifts) (stepOf s m offset h) (stepOf (s ++ t) m' offset h)
+    step-longer : (h : ProgramHeader) → Keeps (LiftStep Lifts) (stepOf s (room m) offset h) (stepOf (s ++ t) (room m') offset h)
     unfolding stepOf
     step-longer h =
         pick-same (LiftStep Lifts) _ _ refl (λ _. load-longer (amountOf offset) h)
         (λ _. pick-same (LiftStep Lifts) _ _ refl (λ _. note-longer h) (λ _. same))
 
     survey-longer : (n i : ℕ) (result : KernelLoaderResult) → headerSize ≤ length s → HeadersStand s (i + n)
-        → Keeps (LiftAnswer Lifts) (surveyFrom n s m offset i result) (surveyFrom n (s ++ t) m' offset i result)
+        → Keeps (LiftAnswer Lifts) (surveyFrom n s (room m) offset i result) (surveyFrom n (s ++ t) (room m') offset i result)
     unfolding surveyFrom
     survey-longer zero i result long stand = same
     survey-longer (suc n) i result long stand =
@@ -158,7 +175,7 @@ module _ (s t : List ℕ) (Lifts : Refusal → Type 0) (lifts : (r : Refusal) �
         (step-after Lifts (step-longer (headerOf s i))
         (λ e. survey-longer n (suc i) (advanced result e) long (record { stands = λ j lt. stand .stands j (omega arith) })))
 
-    whole-longer : AllHold (tests s m offset highmem) → Keeps (LiftAnswer Lifts) (surveyOf s m offset) (surveyOf (s ++ t) m' offset)
+    whole-longer : AllHold (tests s m offset highmem) → Keeps (LiftAnswer Lifts) (surveyOf s (room m) offset) (surveyOf (s ++ t) (room m') offset)
     whole-longer hold =
         let long = header-stands s m offset highmem hold in
         rw (le-append 2 s t 56 (omega arith), le-append 8 s t 24 (omega arith))
@@ -166,7 +183,7 @@ module _ (s t : List ℕ) (Lifts : Refusal → Type 0) (lifts : (r : Refusal) �
         (subst⁻¹ (HeadersStand s) (zero-add (e-phnum s)) (headers-stand s m offset highmem hold)))
 
     -- what is written comes from the image as it was
-    stream-by : AllHold (tests s m offset highmem) → (a : Answer) → surveyOf s m offset ≡ a → ifLoaded a (wholeStream (s ++ t) offset) ≡ ifLoaded a (wholeStream s offset)
+    stream-by : AllHold (tests s m offset highmem) → (a : Answer) → surveyOf s (room m) offset ≡ a → ifLoaded a (wholeStream (s ++ t) offset) ≡ ifLoaded a (wholeStream s offset)
     unfolding wholeStream
     stream-by hold (Refused r) e = refl
     stream-by hold (Loaded result) e =
@@ -176,11 +193,11 @@ module _ (s t : List ℕ) (Lifts : Refusal → Type 0) (lifts : (r : Refusal) �
         (stream-longer s t m (amountOf offset) (e-phnum s) 0 (λ j lt. accepted-stand s m offset highmem ok .stands j (omega arith))
         (λ j le lt. accepted-fit s m offset highmem ok j (omega arith)))
 
-    survey-planned : AllHold (tests s m offset highmem) → {a : Answer} → Keeps (LiftAnswer Lifts) (surveyOf s m offset) a
-        → Keeps (LiftPlan Refused Lifts) (surveyPlan s offset (surveyOf s m offset)) (surveyPlan (s ++ t) offset a)
+    survey-planned : AllHold (tests s m offset highmem) → {a : Answer} → Keeps (LiftAnswer Lifts) (surveyOf s (room m) offset) a
+        → Keeps (LiftPlan Refused Lifts) (surveyPlan s offset (surveyOf s (room m) offset)) (surveyPlan (s ++ t) offset a)
     survey-planned hold (lifted l) = lifted l
     survey-planned hold same =
-        equal (LiftPlan Refused Lifts) (ap (λ ps. record { answer = surveyOf s m offset; stream = ps }) (stream-by hold (surveyOf s m offset) refl))
+        equal (LiftPlan Refused Lifts) (ap (λ ps. record { answer = surveyOf s (room m) offset; stream = ps }) (stream-by hold (surveyOf s (room m) offset) refl))
 
     -- ---- the tests before them
 
@@ -188,13 +205,13 @@ module _ (s t : List ℕ) (Lifts : Refusal → Type 0) (lifts : (r : Refusal) �
       length-asked : Widens Lifts (lengthTests s) (lengthTests (s ++ t))
       length-asked =
           ⊎-elim (λ e. stays (ap (leb headerSize) (as-long s t e)) (λ _. end)) (λ l. grows (leb-grows headerSize (length s) (length (s ++ t)) (longer s t)) l (λ _. end))
-          (lifts ReadElfHeader header)
+          (lifts ReadElfHeader for-header)
 
       stand-asked : Widens Lifts (standTests s) ((standWithin (length (s ++ t)) (e-phoff s) (e-phnum s), ReadProgramHeader) ∷ [])
       stand-asked =
           ⊎-elim (λ e. stays (ap (λ len. standWithin len (e-phoff s) (e-phnum s)) (as-long s t e)) (λ _. end))
           (λ l. grows (stand-grows (length s) (length (s ++ t)) (e-phoff s) (e-phnum s) (longer s t)) l (λ _. end))
-          (lifts ReadProgramHeader program-header)
+          (lifts ReadProgramHeader for-program-header)
 
       -- the header stands in the image as it was, so its fields are the same
       fields-asked : headerSize ≤ length s → Widens Lifts (fieldTests s offset highmem) (fieldTests (s ++ t) offset highmem)

@@ -12,11 +12,11 @@ pub mod NoteVerdicts
 pub mod NotesLengthened
 pub mod Lengthened
 pub mod MoreMemory
+pub mod SameRooms
 pub mod WholeSlice
 pub mod PartsLaws
-pub mod KernelEnd
+pub mod Results
 pub mod FileSizeStays
-pub mod FirstNote
 pub mod ListedNumbers
 pub mod NotesFootprint
 pub mod Footprint

@@ -1,22 +1,30 @@
 -- "Bad input gets its listed number", of an ELF load and of a note walk: a refusal has one of these numbers and no other.
 use Prim.Native.Nat.{ℕ, zero, suc, _+_}
 use mathlib.Core.Path.{_≡_, refl, subst}
+use mathlib.Core.Bool.{Bool, true, false}
 use mathlib.Core.List.{List}
 use native.Mathlib.Omega.{arith}
 use Rattle.answers.specs.Listing.{contains, Listed, rowListed}
+use Rattle.answers.specs.Tests.{Test, askedAll}
+use Rattle.answers.specs.declared.Gate.{Gate}
+use Rattle.answers.specs.declared.Gate.the-variants.{Open, Shut}
 use Rattle.answers.specs.declared.Refusal.{Refusal}
-use Rattle.answers.specs.declared.Refusal.the-variants.{Overflow, ReadNoteHeader, InvalidPvhNote}
 use Rattle.answers.proofs.ListingLaws.{first-listed}
+use Rattle.answers.proofs.TestsLaws.{shut-first}
+use Rattle.answers.specs.Pick.{pick}
 use Rattle.answers.proofs.PickLaws.{pick-with}
+use Rattle.guest.specs.Room.{room}
 use Rattle.guest.specs.declared.Given.{Given}
+use Rattle.guest.specs.declared.GuestAddress.{GuestAddress}
 use Rattle.guest.specs.declared.ImagePlace.{ImagePlace}
 use Rattle.guest.specs.declared.Memory.{Memory}
-use Rattle.reading.specs.declared.NoteHeader.{NoteHeader}
+use Rattle.reading.specs.Notes.{noteHeaderOf}
 use Rattle.elf.specs.Header.{tests}
 use Rattle.elf.specs.Listing.{elfNumbers, noteNumbers}
-use Rattle.elf.specs.Notes.{skipOf, turnAt, afterTurn, walkFrom, twelves, walkOf, saidOf, entryOf, told, publicNote}
+use Rattle.elf.specs.Notes.{isPvhNote, noteLength, noteAt, noteTests}
+use Rattle.elf.specs.NoteWalk.{turnBy, turnAt, afterTurn, walkFrom, twelves, entryOf, publicNote}
 use Rattle.elf.specs.Pouring.{planOf}
-use Rattle.elf.specs.Survey.{endStep, segmentStep, memoryStep, kindStep, loadStep, saidStep, noteStep, stepOf}
+use Rattle.elf.specs.Survey.{Rooms, segmentTests, memoryTests, endOf, stepBy, loadStep, saidStep, noteStep, stepOf}
 use Rattle.elf.specs.Verdict.{stops, Verdict, by-test, by-header, accepted}
 use Rattle.guest.specs.declared.Answer.{Answer}
 use Rattle.guest.specs.declared.Answer.the-variants.{Refused}
@@ -24,94 +32,59 @@ use Rattle.elf.specs.declared.ElfNote.{ElfNote}
 use Rattle.guest.specs.declared.PvhBootCapability.{PvhBootCapability}
 use Rattle.elf.specs.declared.NoteAnswer.{NoteAnswer}
 use Rattle.elf.specs.declared.NoteAnswer.the-variants as answer
-use Rattle.elf.specs.declared.notes.Turn.{Turn}
 use Rattle.elf.specs.declared.notes.Turn.the-variants as turn
-use Rattle.elf.specs.declared.notes.Walk.{Walk}
-use Rattle.elf.specs.declared.notes.Walk.the-variants as walk
-use Rattle.elf.specs.declared.notes.Walked.{Walked}
 use Rattle.elf.specs.declared.program_headers.ProgramHeader.{ProgramHeader}
 use Rattle.elf.specs.declared.survey.Effect.{Effect}
 use Rattle.elf.specs.declared.survey.Step.{Step}
 use Rattle.elf.specs.declared.survey.Step.the-variants.{Pass, Stop}
+use Rattle.elf.proofs.NotesLaws.{found}
 use Rattle.elf.proofs.Verdicts.{verdict}
 
--- ---- notes: each of these, where it refuses, has a number of a list that has those of notes
-
-record HasNotes (numbers : List ℕ) : Type 0 where
-  overflow : Listed numbers Overflow
-  note-header : Listed numbers ReadNoteHeader
-  pvh-note : Listed numbers InvalidPvhNote
-
-data ListedTurn (numbers : List ℕ) : Turn → Type 0 where
-  turn-found : {place : ImagePlace} {size : ℕ} → ListedTurn numbers (turn.Found place size)
-  turn-skips : {k : ℕ} → ListedTurn numbers (turn.Skip k)
-  turn-refuses : {r : Refusal} → Listed numbers r → ListedTurn numbers (turn.Refused r)
-
-data ListedWalk (numbers : List ℕ) : Walk → Type 0 where
-  walk-found : {place : ImagePlace} {size : ℕ} → ListedWalk numbers (walk.Found place size)
-  walk-ends : ListedWalk numbers walk.NotFound
-  walk-refuses : {r : Refusal} → Listed numbers r → ListedWalk numbers (walk.Refused r)
+-- ---- notes: where the walk refuses, the number is one of a list that has those of a note's tests
 
 data ListedAnswer (numbers : List ℕ) : NoteAnswer → Type 0 where
   says : {said : PvhBootCapability} → ListedAnswer numbers (answer.Says said)
   refuses : {r : Refusal} → Listed numbers r → ListedAnswer numbers (answer.Refused r)
 
-module _ (numbers : List ℕ) (has : HasNotes numbers) where
-  skip-listed : (note : NoteHeader) → ListedTurn numbers (skipOf note)
-  unfolding skipOf
-  skip-listed note = pick-with (ListedTurn numbers) _ (λ _. pick-with (ListedTurn numbers) _ (λ _. turn-skips) (λ _. turn-refuses (has .overflow))) (λ _. turn-refuses (has .overflow))
+abbrev ListedNote : List ℕ → ElfNote → Type 0
+ListedNote numbers note = ListedAnswer numbers (note .answer)
 
-  turn-listed : (image : List ℕ) (p : ℕ) → ListedTurn numbers (turnAt image p)
-  unfolding turnAt
-  turn-listed image p =
-      pick-with (ListedTurn numbers) _
-      (λ _. pick-with (ListedTurn numbers) _ (λ _. pick-with (ListedTurn numbers) _ (λ _. turn-found) (λ _. skip-listed _)) (λ _. turn-refuses (has .note-header)))
-      (λ _. skip-listed _)
+module _ (numbers : List ℕ) (row : (image : List ℕ) (p : ℕ) → rowListed numbers (noteTests image p) ≡ true) where
+  turn-listed : (image : List ℕ) (p headers : ℕ) (more : ℕ → ElfNote) → ((k : ℕ) → ListedNote numbers (more k))
+      → ListedNote numbers (afterTurn (noteAt image p) (turnAt image p) headers more)
+  unfolding turnAt pick
+  turn-listed image p headers more rest = by (askedAll Open (noteTests image p)) refl (isPvhNote image p)
+    where
+      by : (gate : Gate) → askedAll Open (noteTests image p) ≡ gate → (it : Bool)
+          → ListedNote numbers (afterTurn (noteAt image p) (turnBy gate (pick it (found image p) (turn.Skip (noteLength (noteHeaderOf image p))))) headers more)
+      by (Shut r) e it = refuses (first-listed numbers (noteTests image p) (row image p) (shut-first (noteTests image p) r e))
+      by Open e true = says
+      by Open e false = rest (noteLength (noteHeaderOf image p))
 
-  after-listed : {t : Turn} (headers : ℕ) (more : ℕ → Walked) → ListedTurn numbers t → ((k : ℕ) → ListedWalk numbers (more k .walk)) → ListedWalk numbers (afterTurn t headers more .walk)
-  after-listed headers more turn-found rest = walk-found
-  after-listed headers more (turn-skips {k}) rest = rest k
-  after-listed headers more (turn-refuses l) rest = walk-refuses l
-
-  walk-listed : (left : ℕ) (image : List ℕ) (from size read headers : ℕ) → ListedWalk numbers (walkFrom left image from size read headers .walk)
+  walk-listed : (left : ℕ) (image : List ℕ) (from size read headers : ℕ) → ListedNote numbers (walkFrom left image from size read headers)
   unfolding walkFrom
-  walk-listed zero image from size read headers = walk-ends
+  walk-listed zero image from size read headers = says
   walk-listed (suc left) image from size read headers =
-      pick-with (λ (w : Walked). ListedWalk numbers (w .walk)) _
-      (λ _. pick-with (λ (w : Walked). ListedWalk numbers (w .walk)) _
-      (λ _. after-listed (suc headers) (λ k. walkFrom left image from size (read + k) (suc headers)) (turn-listed image (from + read)) (λ k. walk-listed left image from size (read + k) (suc headers)))
-      (λ _. walk-refuses (has .note-header)))
-      (λ _. walk-ends)
+      pick-with (ListedNote numbers) _
+      (λ _. turn-listed image (from + read) (suc headers) (λ k. walkFrom left image from size (read + k) (suc headers)) (λ k. walk-listed left image from size (read + k) (suc headers)))
+      (λ _. says)
 
-  said-listed : (image : List ℕ) {w : Walk} → ListedWalk numbers w → ListedAnswer numbers (saidOf image w)
-  unfolding saidOf
-  said-listed image walk-found = pick-with (ListedAnswer numbers) _ (λ _. pick-with (ListedAnswer numbers) _ (λ _. says) (λ _. refuses (has .note-header))) (λ _. refuses (has .pvh-note))
-  said-listed image walk-ends = says
-  said-listed image (walk-refuses l) = refuses l
-
-  entry-listed : (image : List ℕ) (from : ImagePlace) (size : ℕ) → ListedAnswer numbers (entryOf image from size .answer)
-  unfolding entryOf walkOf
-  entry-listed image from size = said-listed image (walk-listed (twelves size) image (from .0) size 0 0)
+  entry-listed : (image : List ℕ) (from : ImagePlace) (size : ℕ) → ListedNote numbers (entryOf image from size)
+  unfolding entryOf
+  entry-listed image from size = walk-listed (twelves size) image (from .0) size 0 0
 
 -- ---- the public walk
 
-note-has : HasNotes noteNumbers
-unfolding contains
-note-has = record { overflow = refl; note-header = refl; pvh-note = refl }
+note-row : (image : List ℕ) (p : ℕ) → rowListed noteNumbers (noteTests image p) ≡ true
+unfolding noteTests rowListed contains
+note-row image p = pick-with (λ (ts : List Test). rowListed noteNumbers ts ≡ true) (isPvhNote image p) (λ _. refl) (λ _. refl)
 
 abbrev NoteListed : NoteAnswer → Type 0
 NoteListed = ListedAnswer noteNumbers
 
-told-listed : {a : NoteAnswer} (headers : ℕ) → NoteListed a → NoteListed (told a headers .answer)
-unfolding told
-told-listed headers says = says
-told-listed headers (refuses l) = refuses l
-
-public-listed : (image : List ℕ) (from : ImagePlace) (size : ℕ) → NoteListed (publicNote image from size .answer)
+public-listed : (image : List ℕ) (from : ImagePlace) (size : ℕ) → ListedNote noteNumbers (publicNote image from size)
 unfolding publicNote contains
-public-listed image from size =
-    pick-with (λ (n : ElfNote). NoteListed (n .answer)) _
-    (λ _. told-listed (entryOf image from size .headers) (entry-listed noteNumbers note-has image from size)) (λ _. refuses refl)
+public-listed image from size = pick-with (ListedNote noteNumbers) _ (λ _. entry-listed noteNumbers note-row image from size) (λ _. refuses refl)
 
 refused-listed : {a : NoteAnswer} {r : Refusal} → NoteListed a → a ≡ answer.Refused r → Listed noteNumbers r
 refused-listed {r = r} (refuses {r = s} l) e = let same : s ≡ r = cc in subst (Listed noteNumbers) same l
@@ -126,42 +99,33 @@ data ListedStep : Step → Type 0 where
   step-passes : {e : Effect} → ListedStep (Pass e)
   step-stops : {r : Refusal} → Listed elfNumbers r → ListedStep (Stop r)
 
-end-listed : (at size : ℕ) → ListedStep (endStep at size)
-unfolding endStep contains
-end-listed at size = pick-with ListedStep _ (λ _. step-passes) (λ _. step-stops refl)
+row-listed : (ts : List Test) (end : GuestAddress) → rowListed elfNumbers ts ≡ true → ListedStep (stepBy (askedAll Open ts) end)
+row-listed ts end ok = by (askedAll Open ts) refl
+  where
+    by : (gate : Gate) → askedAll Open ts ≡ gate → ListedStep (stepBy gate end)
+    by Open e = step-passes
+    by (Shut r) e = step-stops (first-listed elfNumbers ts ok (shut-first ts r e))
 
-segment-listed : (imageLength : ℕ) (m : Memory) (shift : ℕ) (h : ProgramHeader) → ListedStep (segmentStep imageLength m shift h)
-unfolding segmentStep contains
-segment-listed imageLength m shift h =
-    pick-with ListedStep _
-    (λ _. pick-with ListedStep _ (λ _. pick-with ListedStep _ (λ _. end-listed _ _) (λ _. step-stops refl)) (λ _. step-stops refl))
-    (λ _. step-stops refl)
+load-listed : (imageLength : ℕ) (hasRoom : Rooms) (shift : ℕ) (h : ProgramHeader) → ListedStep (loadStep imageLength hasRoom shift h)
+unfolding loadStep rowListed contains
+load-listed imageLength hasRoom shift h =
+    pick-with ListedStep _ (λ _. pick-with ListedStep _ (λ _. step-passes) (λ _. row-listed (memoryTests shift h) (endOf shift h) refl))
+    (λ _. row-listed (segmentTests imageLength hasRoom shift h) (endOf shift h) refl)
 
-memory-listed : (shift : ℕ) (h : ProgramHeader) → ListedStep (memoryStep shift h)
-unfolding memoryStep contains
-memory-listed shift h = pick-with ListedStep _ (λ _. end-listed _ _) (λ _. step-stops refl)
-
-load-listed : (imageLength : ℕ) (m : Memory) (shift : ℕ) (h : ProgramHeader) → ListedStep (loadStep imageLength m shift h)
-unfolding loadStep kindStep contains
-load-listed imageLength m shift h =
-    pick-with ListedStep _
-    (λ _. pick-with ListedStep _ (λ _. pick-with ListedStep _ (λ _. step-passes) (λ _. memory-listed shift h)) (λ _. segment-listed imageLength m shift h))
-    (λ _. step-stops refl)
-
-elf-has : HasNotes elfNumbers
-unfolding contains
-elf-has = record { overflow = refl; note-header = refl; pvh-note = refl }
+elf-row : (image : List ℕ) (p : ℕ) → rowListed elfNumbers (noteTests image p) ≡ true
+unfolding noteTests rowListed contains
+elf-row image p = pick-with (λ (ts : List Test). rowListed elfNumbers ts ≡ true) (isPvhNote image p) (λ _. refl) (λ _. refl)
 
 said-step : {a : NoteAnswer} → ListedAnswer elfNumbers a → ListedStep (saidStep a)
 said-step says = step-passes
 said-step (refuses l) = step-stops l
 
-step-listed : (image : List ℕ) (m : Memory) (offset : Given) (h : ProgramHeader) → ListedStep (stepOf image m offset h)
+step-listed : (image : List ℕ) (hasRoom : Rooms) (offset : Given) (h : ProgramHeader) → ListedStep (stepOf image hasRoom offset h)
 unfolding stepOf noteStep
-step-listed image m offset h =
-    pick-with ListedStep _ (λ _. load-listed _ m _ h)
+step-listed image hasRoom offset h =
+    pick-with ListedStep _ (λ _. load-listed _ hasRoom _ h)
     (λ _. pick-with ListedStep _
-    (λ _. pick-with ListedStep _ (λ _. step-passes) (λ _. said-step (entry-listed elfNumbers elf-has image (h .«p_offset») (h .«p_filesz»))))
+    (λ _. pick-with ListedStep _ (λ _. step-passes) (λ _. said-step (entry-listed elfNumbers elf-row image (h .«p_offset») (h .«p_filesz»))))
     (λ _. step-passes))
 
 -- ---- the load
@@ -175,7 +139,7 @@ unfolding rowListed contains
 by-verdict image m offset highmem {r = r} (by-test {r = s} f) e =
     let same : s ≡ r = cc in subst (Listed elfNumbers) same (first-listed elfNumbers (tests image m offset highmem) refl f)
 by-verdict image m offset highmem {r = r} (by-header {r = s} hold (stops k lt before is)) e =
-    let same : s ≡ r = cc in subst (Listed elfNumbers) same (stop-listed (step-listed image m offset _) is)
+    let same : s ≡ r = cc in subst (Listed elfNumbers) same (stop-listed (step-listed image (room m) offset _) is)
 by-verdict image m offset highmem (accepted {result} hold pass) e = absurd (let w : _≡_ {A = ℕ} 0 1 = cc in omega arith)
 
 pub elf-listed : (image : List ℕ) (m : Memory) (offset highmem : Given) {r : Refusal} → planOf image m offset highmem .answer ≡ Refused r → Listed elfNumbers r

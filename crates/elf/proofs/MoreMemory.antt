@@ -23,18 +23,18 @@ use Rattle.guest.proofs.RoomLaws.{longer-grows, allowed-longer, lent-stays}
 use Rattle.guest.proofs.LoadingLaws.{LiftPlan, load-kept}
 use Rattle.elf.specs.Pouring.{planOf}
 use Rattle.elf.specs.Load.{LoadSays}
-use Rattle.elf.specs.Lengthening.{ForBytes, segment, ForRoom}
+use Rattle.elf.specs.Lengthening.{ForBytes, ForRoom}
 use Rattle.guest.specs.declared.Answer.{Answer}
 use Rattle.guest.specs.declared.Answer.the-variants.{Refused}
 use Rattle.elf.proofs.FitsLaws.{plan-inside}
-use Rattle.elf.proofs.Lengthened.{plan-longer}
+use Rattle.elf.proofs.Lengthened.{for-segment, plan-longer}
 
 -- guest memory grows: the plan is the same, or it refused for room
 pub plan-keeps : (image : List ℕ) (m m' : Memory) (offset highmem : Given) → Grows m m' → allowed (m' .size) ≡ allowed (m .size)
     → goodMap (m' .size) (m' .map) ≡ goodMap (m .size) (m .map) → Keeps (LiftPlan Refused ForRoom) (planOf image m offset highmem) (planOf image m' offset highmem)
 plan-keeps image m m' offset highmem grows both maps =
     subst (λ s. Keeps (LiftPlan Refused ForRoom) (planOf image m offset highmem) (planOf s m' offset highmem)) (append-nil image)
-    (plan-longer image [] ForRoom (λ _ _. inl refl) m m' grows segment offset highmem
+    (plan-longer image [] ForRoom (λ _ _. inl refl) m m' grows refl offset highmem
     (lent-stays ForRoom m m' both maps (length image) (length (image ++ [])) (ap (λ s. allowed (length s)) (append-nil image))))
 
 module _ (offset highmem : Given) (image : List ℕ) (map : Map) (before : List ℕ) {r r' : Answer} {after after' : List ℕ}
@@ -57,7 +57,7 @@ module _ (offset highmem : Given) (image : List ℕ) (map : Map) (before : List 
       → LoadSays (image ++ bytes) offset highmem map' (before ++ more) r' after' → (RefusedFor Refused ForBytes r → ⊥)
       → (r' ≡ r) × (after' ≡ after ++ more)
   both-grow bytes more map' short short-guest good good' grows says' stays =
-      kept-by ForBytes segment bytes more map' (λ _ for. inr for) (allowed-longer image bytes short) (allowed-longer before more short-guest)
+      kept-by ForBytes for-segment bytes more map' (λ _ for. inr for) (allowed-longer image bytes short) (allowed-longer before more short-guest)
       (good' ∙ sym good) grows says' stays
 
   -- the image is lengthened alone
@@ -65,7 +65,7 @@ module _ (offset highmem : Given) (image : List ℕ) (map : Map) (before : List 
       → (RefusedFor Refused ForBytes r → ⊥) → (r' ≡ r) × (after' ≡ after)
   image-longer bytes short says' stays =
       let both =
-      kept-by ForBytes segment bytes [] map (λ _ for. inr for) (allowed-longer image bytes short) (ap (λ l. allowed (length l)) (append-nil before))
+      kept-by ForBytes for-segment bytes [] map (λ _ for. inr for) (allowed-longer image bytes short) (ap (λ l. allowed (length l)) (append-nil before))
       (ap (λ l. goodMap (length l) map) (append-nil before)) (longer-grows before [] map)
       (subst⁻¹ (λ g. LoadSays (image ++ bytes) offset highmem map g r' after') (append-nil before) says') stays in
       (both .0, both .1 ∙ append-nil after)

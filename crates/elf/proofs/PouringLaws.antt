@@ -13,6 +13,7 @@ use Rattle.answers.specs.declared.Gate.the-variants.{Open, Shut}
 use Rattle.answers.proofs.PickLaws.{pick-with}
 use Rattle.guest.specs.Addresses.{amountOf}
 use Rattle.guest.specs.Loading.{Plan, Loads}
+use Rattle.guest.specs.Room.{room}
 use Rattle.guest.specs.Stream.{Poke, pour, streamAt, bytesAt}
 use Rattle.guest.specs.declared.Given.{Given}
 use Rattle.guest.specs.declared.Memory.{Memory}
@@ -54,7 +55,7 @@ module _ (image : List ℕ) (m : Memory) (offset highmem : Given) where
   plan = planOf image m offset highmem
 
   abbrev headers : Plan Answer
-  headers = surveyPlan image offset (surveyOf image m offset)
+  headers = surveyPlan image offset (surveyOf image (room m) offset)
 
   -- a plan writes all segments or nothing
   pub plan-stream : plan .stream ≡ ifLoaded (plan .answer) (wholeStream image offset)
@@ -66,12 +67,12 @@ module _ (image : List ℕ) (m : Memory) (offset highmem : Given) where
 module _ (image : List ℕ) (m : Memory) (offset highmem : Given) where
   pub answer-shut : {gate : Gate} {r : Refusal} → gate ≡ askedAll Open (tests image m offset highmem) → gate ≡ Shut r → Refused r ≡ planOf image m offset highmem .answer
   answer-shut asked is =
-      sym (ap (λ (p : Plan Answer). p .answer) (tests-shut Refused (tests image m offset highmem) (surveyPlan image offset (surveyOf image m offset)) (sym asked ∙ is)))
+      sym (ap (λ (p : Plan Answer). p .answer) (tests-shut Refused (tests image m offset highmem) (surveyPlan image offset (surveyOf image (room m) offset)) (sym asked ∙ is)))
 
   pub answer-open : {gate : Gate} {r : Answer} {n entry amount : ℕ} → gate ≡ askedAll Open (tests image m offset highmem) → gate ≡ Open
-      → r ≡ surveyFrom n image m offset 0 (blank (record { 0 = amount + entry })) → n ≡ e-phnum image → entry ≡ e-entry image → amount ≡ amountOf offset
+      → r ≡ surveyFrom n image (room m) offset 0 (blank (record { 0 = amount + entry })) → n ≡ e-phnum image → entry ≡ e-entry image → amount ≡ amountOf offset
       → r ≡ planOf image m offset highmem .answer
   answer-open asked is er en ee ea =
       er
       ∙ rw (en, ee, ea)
-      (sym (ap (λ (p : Plan Answer). p .answer) (tests-open Refused (tests image m offset highmem) (surveyPlan image offset (surveyOf image m offset)) (sym asked ∙ is))))
+      (sym (ap (λ (p : Plan Answer). p .answer) (tests-open Refused (tests image m offset highmem) (surveyPlan image offset (surveyOf image (room m) offset)) (sym asked ∙ is))))

@@ -9,6 +9,7 @@ use Rattle.answers.specs.Catalogue.{numberOf}
 use Rattle.answers.specs.Tests.{Test, AllHold, FirstFails}
 use Rattle.answers.specs.declared.Refusal.{Refusal}
 use Rattle.guest.specs.Loading.{Plan}
+use Rattle.guest.specs.Room.{room}
 use Rattle.guest.specs.declared.Given.{Given}
 use Rattle.guest.specs.declared.Memory.{Memory}
 use Rattle.guest.proofs.LoadingLaws.{all-planned, first-planned, behind-with}
@@ -53,22 +54,22 @@ module _ (image : List ℕ) (m : Memory) (offset : Given) where
   step-ends n i (Pass e) more is rest = one-more at-header i n is (rest e)
   step-ends n i (Stop r) more is rest = stop i (omega arith) (omega arith) (λ j le lt. absurd (omega arith)) is
 
-  survey-ends : (n i : ℕ) (result : KernelLoaderResult) → Ends at-header i n (surveyFrom n image m offset i result)
+  survey-ends : (n i : ℕ) (result : KernelLoaderResult) → Ends at-header i n (surveyFrom n image (room m) offset i result)
   unfolding surveyFrom
   survey-ends zero i result = all (λ j le lt. absurd (omega arith))
   survey-ends (suc n) i result =
-      step-ends n i (at-header i) (λ e. surveyFrom n image m offset (suc i) (advanced result e)) refl (λ e. survey-ends n (suc i) (advanced result e))
+      step-ends n i (at-header i) (λ e. surveyFrom n image (room m) offset (suc i) (advanced result e)) refl (λ e. survey-ends n (suc i) (advanced result e))
 
   -- the first that does not pass, header k, decides
   survey-stops : (n i k : ℕ) (result : KernelLoaderResult) {r : Refusal} → i ≤ k → k < i + n
-      → ((j : ℕ) → i ≤ j → j < k → Passes (at-header j)) → at-header k ≡ Stop r → surveyFrom n image m offset i result ≡ Refused r
+      → ((j : ℕ) → i ≤ j → j < k → Passes (at-header j)) → at-header k ≡ Stop r → surveyFrom n image (room m) offset i result ≡ Refused r
   unfolding surveyFrom
   survey-stops zero i k result le lt before is = absurd (omega arith)
   survey-stops (suc n) i k result {r} le lt before is =
       split (decLe (suc i) k) (λ h e. survey-stops n (suc i) k (advanced result e) h (omega arith) (λ j le' lt'. before j (omega arith) lt') is)
     where
       next : Effect → Answer
-      next e = surveyFrom n image m offset (suc i) (advanced result e)
+      next e = surveyFrom n image (room m) offset (suc i) (advanced result e)
 
       goes-on : (u : Step) → Passes u → ((e : Effect) → next e ≡ Refused r) → afterStep u next ≡ Refused r
       goes-on (Pass e) passes rest = rest e
@@ -79,7 +80,7 @@ module _ (image : List ℕ) (m : Memory) (offset : Given) where
 
   -- where all pass, the load is accepted
   survey-passes : (n i : ℕ) (result : KernelLoaderResult) → ((j : ℕ) → i ≤ j → j < i + n → Passes (at-header j))
-      → Accepted (surveyFrom n image m offset i result)
+      → Accepted (surveyFrom n image (room m) offset i result)
   unfolding surveyFrom
   survey-passes zero i result all-pass = is-accepted
   survey-passes (suc n) i result all-pass =
@@ -87,7 +88,7 @@ module _ (image : List ℕ) (m : Memory) (offset : Given) where
       (λ e. survey-passes n (suc i) (advanced result e) (λ j le lt. all-pass j (omega arith) (omega arith)))
     where
       next : Effect → Answer
-      next e = surveyFrom n image m offset (suc i) (advanced result e)
+      next e = surveyFrom n image (room m) offset (suc i) (advanced result e)
 
       goes-on : (u : Step) → Passes u → ((e : Effect) → Accepted (next e)) → Accepted (afterStep u next)
       goes-on (Pass e) passes rest = rest e
@@ -102,7 +103,7 @@ module _ (image : List ℕ) (m : Memory) (offset highmem : Given) where
   steps = stepAt image m offset
 
   abbrev headers : Plan Answer
-  headers = surveyPlan image offset (surveyOf image m offset)
+  headers = surveyPlan image offset (surveyOf image (room m) offset)
 
   abbrev told : Answer
   told = planOf image m offset highmem .answer
@@ -110,7 +111,7 @@ module _ (image : List ℕ) (m : Memory) (offset highmem : Given) where
   abbrev first : KernelLoaderResult
   first = blank (loadAddress image offset)
 
-  pub by-headers : AllHold row → told ≡ surveyOf image m offset
+  pub by-headers : AllHold row → told ≡ surveyOf image (room m) offset
   by-headers hold = ap (λ (p : Plan Answer). p .answer) (all-planned Refused row headers hold)
 
   -- each rule, where its turn comes, decides

@@ -1,14 +1,18 @@
 -- Which refusals more image bytes or more guest memory may lift.
+use mathlib.Core.Path.{_≡_}
+use mathlib.Core.List.{List, [], _∷_}
+use Prim.Native.Nat.{ℕ}
+use Rattle.answers.specs.Listing.{Listed}
 use Rattle.answers.specs.declared.Refusal.{Refusal}
-use Rattle.answers.specs.declared.Refusal.the-variants.{ReadElfHeader, ReadProgramHeader, ReadKernelImage, ReadNoteHeader}
+use Rattle.answers.specs.declared.Refusal.the-variants.{ReadKernelImage}
 
--- bytes of the image may be missing
-pub data ForBytes : Refusal → Type 0 where
-  header : ForBytes ReadElfHeader
-  program-header : ForBytes ReadProgramHeader
-  segment : ForBytes ReadKernelImage
-  note : ForBytes ReadNoteHeader
+-- those for missing bytes of the image: of its header, its program headers, a segment, a note
+abbrev pub bytesNumbers : List ℕ
+bytesNumbers = 7 ∷ 8 ∷ 10 ∷ 11 ∷ []
 
--- room in guest memory may be missing
-pub data ForRoom : Refusal → Type 0 where
-  segment : ForRoom ReadKernelImage
+abbrev pub ForBytes : Refusal → Type 0
+ForBytes refusal = Listed bytesNumbers refusal
+
+-- the one for missing room in guest memory
+abbrev pub ForRoom : Refusal → Type 0
+ForRoom refusal = refusal ≡ ReadKernelImage

@@ -4,6 +4,7 @@
 pub mod Header
 pub mod ProgramHeaders
 pub mod Notes
+pub mod NoteWalk
 pub mod Survey
 pub mod Pouring
 pub mod Load
@@ -11,10 +12,9 @@ pub mod Parts
 -- what theorems are stated with beside it
 pub mod Listing
 pub mod Verdict
-pub mod NoteVerdict
 pub mod Rules
 pub mod ByteRule
-pub mod FirstNote
+pub mod Results
 pub mod Lengthening
 pub mod Footprint
 pub mod WholeSlice

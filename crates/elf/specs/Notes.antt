@@ -1,10 +1,13 @@
--- The note walk: the notes of a program header, until the one that holds the PVH entry.
-use Prim.Native.Nat.{ℕ, zero, suc, _+_, _/_}
-use mathlib.Core.Bool.{Bool, false}
+-- The notes of a program header, and what a walk over them answers, said without a bound on the walk. The walk itself is in NoteWalk.
+use Prim.Native.Nat.{ℕ, suc, _+_, _≤_, _<_}
+use mathlib.Core.Path.{_≡_}
+use mathlib.Core.Bool.{Bool, true, false}
 use mathlib.Core.List.{List, [], _∷_}
-use lib.Dec.{ltb, leb, eqb}
+use lib.Dec.{leb, eqb}
 use lib.ListN.{length}
 use Rattle.answers.specs.Pick.{pick}
+use Rattle.answers.specs.Tests.{Test, AllHold, FirstFails}
+use Rattle.answers.specs.declared.Refusal.{Refusal}
 use Rattle.answers.specs.declared.Refusal.the-variants as refusal
 use Rattle.fields.specs.Numbers.{le}
 use Rattle.fields.specs.Ranges.{liesWithin}
@@ -12,20 +15,15 @@ use Rattle.fields.specs.Rounding.{roundedUp}
 use Rattle.fields.specs.Tags.{tagAt}
 use Rattle.guest.specs.Sizes.{allowed}
 use Rattle.guest.specs.declared.ImagePlace.{ImagePlace}
-use Rattle.reading.specs.Notes.{noteHeaderOf}
-use Rattle.reading.specs.declared.NoteHeader.{NoteHeader}
 use Rattle.guest.specs.declared.PvhNote.{PvhNote}
 use Rattle.guest.specs.declared.PvhBootCapability.the-variants as pvh
-use Rattle.elf.specs.declared.NoteAnswer.{NoteAnswer}
+use Rattle.reading.specs.Notes.{noteHeaderOf}
+use Rattle.reading.specs.declared.NoteHeader.{NoteHeader}
 use Rattle.elf.specs.declared.NoteAnswer.the-variants as answer
 use Rattle.elf.specs.declared.ElfNote.{ElfNote}
-use Rattle.elf.specs.declared.notes.Turn.{Turn}
-use Rattle.elf.specs.declared.notes.Turn.the-variants as turn
-use Rattle.elf.specs.declared.notes.Walk.{Walk}
-use Rattle.elf.specs.declared.notes.Walk.the-variants as walk
-use Rattle.elf.specs.declared.notes.Walked.{Walked}
 
--- a note is twelve bytes of header, its name, its descriptor
+-- ---- one note: twelve bytes of header, its name, its descriptor
+
 abbrev pub noteHeaderSize : ℕ
 noteHeaderSize = 12
 
@@ -36,9 +34,13 @@ physEntry = 18
 abbrev pub xen : List ℕ
 xen = 0x58 ∷ 0x65 ∷ 0x6E ∷ 0 ∷ []
 
--- type and name size are those of the wanted note
+-- do type and name size say that the name has to be looked at?
 unfoldable pub isWanted : NoteHeader → Bool
 isWanted note = pick (eqb (note .«n_type») physEntry) (eqb (note .«n_namesz») 4) false
+
+-- is the note at p the PVH note?
+unfoldable pub isPvhNote : List ℕ → ℕ → Bool
+isPvhNote image p = pick (isWanted (noteHeaderOf image p)) (tagAt xen image (p + noteHeaderSize)) false
 
 -- the greatest size that rounds up to 4 within 32 bits
 abbrev pub topSize : ℕ
@@ -48,75 +50,60 @@ topSize = 0xFFFFFFFC
 abbrev pub noteLength : NoteHeader → ℕ
 noteLength note = noteHeaderSize + roundedUp (note .«n_namesz») + roundedUp (note .«n_descsz»)
 
--- a note that is not wanted: both sizes are tested, then it is passed over
-unfoldable pub skipOf : NoteHeader → Turn
-skipOf note =
-    pick (leb (note .«n_namesz») topSize)
-    (pick (leb (note .«n_descsz») topSize)
-    (turn.Skip (noteLength note))
-    (turn.Refused refusal.Overflow))
-    (turn.Refused refusal.Overflow)
+-- a descriptor at an offset of the image, of this size: the entry is the number of its first four bytes
+abbrev pub noteWith : List ℕ → ImagePlace → ℕ → PvhNote
+noteWith image place size = record { entry = record { 0 = le 4 image (place .0) }; place = place; size = size }
 
--- the note whose header stands at p. Its name is looked for within the image, and not within the segment
-unfoldable pub turnAt : List ℕ → ℕ → Turn
-turnAt image p =
-    let note = noteHeaderOf image p in
-    pick (isWanted note)
-    (pick (liesWithin (length image) (p + noteHeaderSize) 4)
-    (pick (tagAt xen image (p + noteHeaderSize)) (turn.Found (record { 0 = p + 16 }) (note .«n_descsz»)) (skipOf note))
-    (turn.Refused refusal.ReadNoteHeader))
-    (skipOf note)
+-- the PVH note at p, whose descriptor follows the four bytes of its name
+abbrev pub descriptorAt : ℕ → ℕ
+descriptorAt p = p + 16
 
--- what the walk does after a note, with the headers read so far: `more k` goes on k bytes further
-abbrev pub afterTurn : Turn → ℕ → (ℕ → Walked) → Walked
-afterTurn (turn.Found place size) headers more = record { walk = walk.Found place size; headers = headers }
-afterTurn (turn.Skip k) headers more = more k
-afterTurn (turn.Refused r) headers more = record { walk = walk.Refused r; headers = headers }
+abbrev pub noteAt : List ℕ → ℕ → PvhNote
+noteAt image p = noteWith image (record { 0 = descriptorAt p }) (noteHeaderOf image p .«n_descsz»)
 
--- the walk from a read size on, with so many notes left at the most
-unfoldable pub walkFrom : ℕ → List ℕ → ℕ → ℕ → ℕ → ℕ → Walked
-walkFrom zero image from size read headers = record { walk = walk.NotFound; headers = headers }
-walkFrom (suc left) image from size read headers =
-    pick (ltb read size)
-    (pick (liesWithin (length image) from (read + noteHeaderSize))
-    (afterTurn (turnAt image (from + read)) (suc headers) (λ k. walkFrom left image from size (read + k) (suc headers)))
-    (record { walk = walk.Refused refusal.ReadNoteHeader; headers = headers }))
-    (record { walk = walk.NotFound; headers = headers })
+-- ---- the tests of a note, in order
 
--- the twelve bytes begun of a size: each note that is passed over takes twelve bytes or more, so there are no more notes
-abbrev pub twelves : ℕ → ℕ
-twelves size = (size + 11) / 12
+-- of the PVH note: its descriptor has the four bytes of an entry, which lie in the image
+abbrev pub pvhTests : List ℕ → ℕ → List Test
+pvhTests image p =
+    (leb 4 (noteHeaderOf image p .«n_descsz»), refusal.InvalidPvhNote) ∷ (liesWithin (length image) (descriptorAt p) 4, refusal.ReadNoteHeader) ∷ []
 
-unfoldable pub walkOf : List ℕ → ImagePlace → ℕ → Walked
-walkOf image from size = walkFrom (twelves size) image (from .0) size 0 0
+-- of any other: both its sizes can be rounded up
+abbrev pub sizeTests : NoteHeader → List Test
+sizeTests note = (leb (note .«n_namesz») topSize, refusal.Overflow) ∷ (leb (note .«n_descsz») topSize, refusal.Overflow) ∷ []
 
--- the note whose descriptor stands at a place, of this size: the entry is the number of its first four bytes
-abbrev pub noteAt : List ℕ → ImagePlace → ℕ → PvhNote
-noteAt image place size = record { entry = record { 0 = le 4 image (place .0) }; place = place; size = size }
+-- its header lies in the image, then its name, if that has to be looked at, then these. The name is sought in the image, not in the segment
+unfoldable pub noteTests : List ℕ → ℕ → List Test
+noteTests image p =
+    (liesWithin (length image) p noteHeaderSize, refusal.ReadNoteHeader)
+    ∷ (pick (isWanted (noteHeaderOf image p)) (liesWithin (length image) (p + noteHeaderSize) 4) true, refusal.ReadNoteHeader)
+    ∷ pick (isPvhNote image p) (pvhTests image p) (sizeTests (noteHeaderOf image p))
 
--- what a walk says: of a note found, its entry, and where and how long its descriptor is
-unfoldable pub saidOf : List ℕ → Walk → NoteAnswer
-saidOf image (walk.Found place size) =
-    pick (leb 4 size)
-    (pick (liesWithin (length image) (place .0) 4)
-    (answer.Says (pvh.PvhEntryPresent (noteAt image place size)))
-    (answer.Refused refusal.ReadNoteHeader))
-    (answer.Refused refusal.InvalidPvhNote)
-saidOf image walk.NotFound = answer.Says pvh.PvhEntryNotPresent
-saidOf image (walk.Refused r) = answer.Refused r
+-- ---- the walk
 
-unfoldable pub entryOf : List ℕ → ImagePlace → ℕ → ElfNote
-entryOf image from size = record { answer = saidOf image (walkOf image from size .walk); headers = walkOf image from size .headers }
+-- of the notes of `size` bytes from an offset on, the first j are passed over, and take `read` bytes: all their tests hold, and none is the PVH note
+pub data PassedOver (image : List ℕ) (from size : ℕ) : ℕ → ℕ → Type 0 where
+  no-note : PassedOver image from size 0 0
+  one-more : {j read : ℕ} → PassedOver image from size j read → read < size → AllHold (noteTests image (from + read))
+      → isPvhNote image (from + read) ≡ false → PassedOver image from size (suc j) (read + noteLength (noteHeaderOf image (from + read)))
 
--- a refusal is told alone: no headers beside it
-unfoldable pub told : NoteAnswer → ℕ → ElfNote
-told (answer.Says said) headers = record { answer = answer.Says said; headers = headers }
-told (answer.Refused r) headers = record { answer = answer.Refused r; headers = 0 }
+-- a refusal, with no count
+abbrev pub refusedNote : Refusal → ElfNote
+refusedNote r = record { answer = answer.Refused r; headers = 0 }
 
-abbrev pub toldOf : ElfNote → ElfNote
-toldOf note = told (note .answer) (note .headers)
+-- the PVH note at p, the j-th note that is read
+abbrev pub foundNote : List ℕ → ℕ → ℕ → ElfNote
+foundNote image p j = record { answer = answer.Says (pvh.PvhEntryPresent (noteAt image p)); headers = j }
 
--- the public walk: an image that is too long is refused first
-unfoldable pub publicNote : List ℕ → ImagePlace → ℕ → ElfNote
-publicNote image from size =
-    pick (allowed (length image)) (toldOf (entryOf image from size)) (record { answer = answer.Refused refusal.SliceTooLong; headers = 0 })
+-- none among j notes
+abbrev pub noEntry : ℕ → ElfNote
+noEntry j = record { answer = answer.Says pvh.PvhEntryNotPresent; headers = j }
+
+-- which rule decides: the image's length, the first note that is not passed over, or none
+pub data NoteVerdict (image : List ℕ) (from size : ℕ) : ElfNote → Type 0 where
+  too-long : allowed (length image) ≡ false → NoteVerdict image from size (refusedNote refusal.SliceTooLong)
+  refused : {j read : ℕ} {r : Refusal} → allowed (length image) ≡ true → PassedOver image from size j read → read < size
+      → FirstFails r (noteTests image (from + read)) → NoteVerdict image from size (refusedNote r)
+  found : {j read : ℕ} → allowed (length image) ≡ true → PassedOver image from size j read → read < size
+      → AllHold (noteTests image (from + read)) → isPvhNote image (from + read) ≡ true → NoteVerdict image from size (foundNote image (from + read) (suc j))
+  not-found : {j read : ℕ} → allowed (length image) ≡ true → PassedOver image from size j read → size ≤ read → NoteVerdict image from size (noEntry j)

@@ -4,6 +4,7 @@ use mathlib.Core.List.{List, [], _++_}
 use lib.Dec.{eqb}
 use Rattle.answers.specs.Pick.{pick}
 use Rattle.guest.specs.Addresses.{amountOf}
+use Rattle.guest.specs.Room.{room}
 use Rattle.guest.specs.Stream.{Poke, streamAt, bytesAt}
 use Rattle.guest.specs.Loading.{Plan, behindTests}
 use Rattle.guest.specs.declared.Given.{Given}
@@ -39,4 +40,4 @@ surveyPlan image offset answer = record { answer = answer; stream = ifLoaded ans
 
 -- the plan of a load: the tests before the program headers, then the headers
 abbrev pub planOf : List ℕ → Memory → Given → Given → Plan Answer
-planOf image m offset highmem = behindTests Refused (tests image m offset highmem) (surveyPlan image offset (surveyOf image m offset))
+planOf image m offset highmem = behindTests Refused (tests image m offset highmem) (surveyPlan image offset (surveyOf image (room m) offset))

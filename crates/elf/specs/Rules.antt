@@ -13,7 +13,7 @@ use Rattle.guest.specs.declared.Given.{Given}
 use Rattle.guest.specs.declared.Memory.{Memory}
 use Rattle.elf.specs.Header.{tests, e-phnum}
 use Rattle.elf.specs.ProgramHeaders.{headerOf}
-use Rattle.elf.specs.Notes.{entryOf}
+use Rattle.elf.specs.NoteWalk.{entryOf}
 use Rattle.guest.specs.declared.PvhBootCapability.{PvhBootCapability}
 use Rattle.elf.specs.declared.NoteAnswer.{NoteAnswer}
 use Rattle.elf.specs.declared.NoteAnswer.the-variants.{Says}

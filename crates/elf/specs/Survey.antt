@@ -1,19 +1,21 @@
 -- The survey of the program headers, one after the other, up to the first that refuses.
 use Prim.Native.Nat.{ℕ, zero, suc, _+_, max}
-use mathlib.Core.List.{List}
+use mathlib.Core.Bool.{Bool}
+use mathlib.Core.List.{List, [], _∷_}
 use lib.Dec.{leb, eqb}
 use lib.ListN.{length}
 use Rattle.answers.specs.Pick.{pick}
+use Rattle.answers.specs.Tests.{Test, askedAll}
+use Rattle.answers.specs.declared.Gate.{Gate}
+use Rattle.answers.specs.declared.Gate.the-variants.{Open, Shut}
 use Rattle.answers.specs.declared.Refusal.the-variants as refusal
 use Rattle.fields.specs.Ranges.{liesWithin, fits64}
 use Rattle.guest.specs.Addresses.{amountOf, isGiven}
-use Rattle.guest.specs.Room.{room}
 use Rattle.guest.specs.declared.Given.{Given}
 use Rattle.guest.specs.declared.GuestAddress.{GuestAddress}
-use Rattle.guest.specs.declared.Memory.{Memory}
 use Rattle.elf.specs.Header.{e-entry, e-phnum}
 use Rattle.elf.specs.ProgramHeaders.{headerOf}
-use Rattle.elf.specs.Notes.{entryOf}
+use Rattle.elf.specs.NoteWalk.{entryOf}
 use Rattle.guest.specs.declared.PvhBootCapability.{PvhBootCapability}
 use Rattle.guest.specs.declared.PvhBootCapability.the-variants as pvh
 use Rattle.guest.specs.declared.KernelLoaderResult.{KernelLoaderResult}
@@ -27,34 +29,48 @@ use Rattle.elf.specs.declared.survey.Effect.the-variants as effect
 use Rattle.elf.specs.declared.survey.Step.{Step}
 use Rattle.elf.specs.declared.survey.Step.the-variants.{Pass, Stop}
 
--- the end of a segment's memory, of this size from an address on
-unfoldable pub endStep : ℕ → ℕ → Step
-endStep at size = pick (fits64 at size) (Pass (effect.EndsAt (record { 0 = at + size }))) (Stop refusal.MemoryOverflow)
+-- where n bytes from an address on have room in guest memory
+abbrev pub Rooms : Type 0
+Rooms = ℕ → ℕ → Bool
 
--- a loadable segment with file bytes, moved by shift: its address, its bytes in the image, their room in guest memory, its end
-unfoldable pub segmentStep : ℕ → Memory → ℕ → ProgramHeader → Step
-segmentStep imageLength m shift h =
-    let at = shift + h .«p_paddr» .0 in
-    pick (fits64 shift (h .«p_paddr» .0))
-    (pick (liesWithin imageLength (h .«p_offset» .0) (h .«p_filesz»))
-    (pick (room m at (h .«p_filesz»)) (endStep at (h .«p_memsz»)) (Stop refusal.ReadKernelImage))
-    (Stop refusal.ReadKernelImage))
-    (Stop refusal.InvalidProgramHeaderAddress)
+-- ---- a loadable segment, moved by shift
 
--- one of memory alone, which is to be cleared: its address and its end. Nothing is read or written, and room is not asked
-unfoldable pub memoryStep : ℕ → ProgramHeader → Step
-memoryStep shift h =
-    pick (fits64 shift (h .«p_paddr» .0)) (endStep (shift + h .«p_paddr» .0) (h .«p_memsz»)) (Stop refusal.InvalidProgramHeaderAddress)
+abbrev pub addressOf : ℕ → ProgramHeader → ℕ
+addressOf shift h = shift + h .«p_paddr» .0
 
--- a loadable segment by its kind: with file bytes, of memory alone, or empty in both sizes and skipped
-unfoldable pub kindStep : ℕ → Memory → ℕ → ProgramHeader → Step
-kindStep imageLength m shift h =
-    pick (eqb (h .«p_filesz») 0) (pick (eqb (h .«p_memsz») 0) (Pass effect.Nothing) (memoryStep shift h)) (segmentStep imageLength m shift h)
+-- with file bytes: its sizes, its address, its bytes in the image, their room in guest memory, the end of its memory
+abbrev pub segmentTests : ℕ → Rooms → ℕ → ProgramHeader → List Test
+segmentTests imageLength hasRoom shift h =
+    (leb (h .«p_filesz») (h .«p_memsz»), refusal.InvalidProgramHeaderFileSize)
+    ∷ (fits64 shift (h .«p_paddr» .0), refusal.InvalidProgramHeaderAddress)
+    ∷ (liesWithin imageLength (h .«p_offset» .0) (h .«p_filesz»), refusal.ReadKernelImage)
+    ∷ (hasRoom (addressOf shift h) (h .«p_filesz»), refusal.ReadKernelImage)
+    ∷ (fits64 (addressOf shift h) (h .«p_memsz»), refusal.MemoryOverflow)
+    ∷ []
 
--- a loadable segment: its file size never exceeds its memory size
-unfoldable pub loadStep : ℕ → Memory → ℕ → ProgramHeader → Step
-loadStep imageLength m shift h =
-    pick (leb (h .«p_filesz») (h .«p_memsz»)) (kindStep imageLength m shift h) (Stop refusal.InvalidProgramHeaderFileSize)
+-- without file bytes, to be cleared by the kernel: nothing is read or written, and no room is needed
+abbrev pub memoryTests : ℕ → ProgramHeader → List Test
+memoryTests shift h =
+    (fits64 shift (h .«p_paddr» .0), refusal.InvalidProgramHeaderAddress)
+    ∷ (fits64 (addressOf shift h) (h .«p_memsz»), refusal.MemoryOverflow)
+    ∷ []
+
+-- if the tests hold, the segment's end is reported; else the refusal of the first that fails
+abbrev pub endOf : ℕ → ProgramHeader → GuestAddress
+endOf shift h = record { 0 = addressOf shift h + h .«p_memsz» }
+
+abbrev pub stepBy : Gate → GuestAddress → Step
+stepBy Open end = Pass (effect.EndsAt end)
+stepBy (Shut r) end = Stop r
+
+-- with file bytes, of memory only, or empty and skipped
+unfoldable pub loadStep : ℕ → Rooms → ℕ → ProgramHeader → Step
+loadStep imageLength hasRoom shift h =
+    pick (eqb (h .«p_filesz») 0)
+    (pick (eqb (h .«p_memsz») 0) (Pass effect.Nothing) (stepBy (askedAll Open (memoryTests shift h)) (endOf shift h)))
+    (stepBy (askedAll Open (segmentTests imageLength hasRoom shift h)) (endOf shift h))
+
+-- ---- any program header
 
 -- what the notes say, as a step
 abbrev pub saidStep : NoteAnswer → Step
@@ -66,10 +82,10 @@ unfoldable pub noteStep : List ℕ → Given → ProgramHeader → Step
 noteStep image offset h = pick (isGiven offset) (Pass (effect.Pvh pvh.PvhEntryIgnored)) (saidStep (entryOf image (h .«p_offset») (h .«p_filesz») .answer))
 
 -- any program header, by its type: 1 is loadable, 4 has notes, others are skipped
-unfoldable pub stepOf : List ℕ → Memory → Given → ProgramHeader → Step
-stepOf image m offset h =
+unfoldable pub stepOf : List ℕ → Rooms → Given → ProgramHeader → Step
+stepOf image hasRoom offset h =
     pick (eqb (h .«p_type») 1)
-    (loadStep (length image) m (amountOf offset) h)
+    (loadStep (length image) hasRoom (amountOf offset) h)
     (pick (eqb (h .«p_type») 4) (noteStep image offset h) (Pass effect.Nothing))
 
 -- PVH after one more note header: the first note found holds
@@ -102,15 +118,15 @@ afterStep (Pass e) more = more e
 afterStep (Stop r) more = Refused r
 
 -- n program headers from header i on
-unfoldable pub surveyFrom : ℕ → List ℕ → Memory → Given → ℕ → KernelLoaderResult → Answer
-surveyFrom zero image m offset i result = Loaded result
-surveyFrom (suc n) image m offset i result =
-    afterStep (stepOf image m offset (headerOf image i)) (λ e. surveyFrom n image m offset (suc i) (advanced result e))
+unfoldable pub surveyFrom : ℕ → List ℕ → Rooms → Given → ℕ → KernelLoaderResult → Answer
+surveyFrom zero image hasRoom offset i result = Loaded result
+surveyFrom (suc n) image hasRoom offset i result =
+    afterStep (stepOf image hasRoom offset (headerOf image i)) (λ e. surveyFrom n image hasRoom offset (suc i) (advanced result e))
 
 -- the load address: the entry point, plus the offset if given
 abbrev pub loadAddress : List ℕ → Given → GuestAddress
 loadAddress image offset = record { 0 = amountOf offset + e-entry image }
 
 -- all program headers
-abbrev pub surveyOf : List ℕ → Memory → Given → Answer
-surveyOf image m offset = surveyFrom (e-phnum image) image m offset 0 (blank (loadAddress image offset))
+abbrev pub surveyOf : List ℕ → Rooms → Given → Answer
+surveyOf image hasRoom offset = surveyFrom (e-phnum image) image hasRoom offset 0 (blank (loadAddress image offset))

@@ -4,6 +4,7 @@ use mathlib.Core.Path.{_≡_}
 use mathlib.Core.List.{List}
 use Rattle.answers.specs.Tests.{AllHold, FirstFails}
 use Rattle.answers.specs.declared.Refusal.{Refusal}
+use Rattle.guest.specs.Room.{room}
 use Rattle.guest.specs.declared.Given.{Given}
 use Rattle.guest.specs.declared.Memory.{Memory}
 use Rattle.elf.specs.Header.{tests, e-phnum}
@@ -29,7 +30,7 @@ pub data FirstStops (step : ℕ → Step) (n : ℕ) (r : Refusal) : Type 0 where
 
 -- what program header j says
 abbrev pub stepAt : List ℕ → Memory → Given → ℕ → Step
-stepAt image m offset j = stepOf image m offset (headerOf image j)
+stepAt image m offset j = stepOf image (room m) offset (headerOf image j)
 
 -- which rule decides: a test before the program headers, a program header, or none
 pub data Verdict (image : List ℕ) (m : Memory) (offset highmem : Given) : Answer → Type 0 where

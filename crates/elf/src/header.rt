@@ -20,19 +20,20 @@ use fields::numbers;
 use fields::ranges;
 use fields::tags;
 use guest::Given;
+use guest::ImagePlace;
 use guest::Memory;
 use guest::addresses;
 use guest::lent;
 
 // Do n program headers from a place lie within the image? Where there are none, the place is not asked.
-fn stand_within(len: u64, e_phoff: u64, n: u64) -> bool
+fn stand_within(len: u64, e_phoff: ImagePlace, n: u64) -> bool
     requires { ⌜ n < 65536 ⌝ }
-    ensures { λ r. ⌜ r ≡ standWithin len «e_phoff» n ⌝ }
+    ensures { λ r. ⌜ r ≡ standWithin len («e_phoff» .0) n ⌝ }
 {
     if n == 0 {
         return true;
     }
-    ranges::within(len, e_phoff, 56 * n)
+    ranges::within(len, e_phoff.0, 56 * n)
 }
 
 // The tests before the program headers, in their order. Every reader answers on every input, so no test guards another.
@@ -70,7 +71,7 @@ pub(crate) fn validate_header(image: &[u8], memory: Memory, offset: Given, highm
     );
     answers::require(
         gate,
-        stand_within(len, e_phoff, e_phnum),
+        stand_within(len, ImagePlace(e_phoff), e_phnum),
         Refusal::ReadProgramHeader,
     )
 }

@@ -11,7 +11,7 @@
 // ELF kernels: the plan of a load, made of the image, the memory and the options only, and its parts: the segments of
 // all program headers, in file order. The crate `loads` copies them if every header has passed.
 ghost use mathlib.Core.Path.{_≡_};
-ghost use Rattle.elf.specs.Notes.{publicNote};
+ghost use Rattle.elf.specs.NoteWalk.{publicNote};
 use answers::Refusal;
 use guest::ImagePlace;
 use guest::PvhBootCapability;
@@ -29,7 +29,7 @@ pub enum NoteAnswer {
     Refused(Refusal),
 }
 
-// What a note walk answers, and how many note headers it read: none beside a refusal, which is told alone.
+// What a note walk answers, and how many note headers it read; a refusal has no count.
 pub struct ElfNote {
     pub answer: NoteAnswer,
     pub headers: u64,
@@ -45,5 +45,5 @@ pub fn parse_elf_note(image: &[u8], p_offset: ImagePlace, p_filesz: u64) -> ElfN
             headers: 0,
         };
     }
-    notes::told(notes::entry(image, p_offset, p_filesz))
+    notes::entry(image, p_offset, p_filesz)
 }

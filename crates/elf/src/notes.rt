@@ -12,7 +12,12 @@
 ghost use mathlib.Core.Path.{_≡_};
 ghost use Prim.Native.Nat.{_+_, _≤_};
 ghost use lib.ListN.{length};
-ghost use Rattle.elf.specs.Notes.{isWanted, skipOf, turnAt, walkOf, entryOf, toldOf};
+ghost use Rattle.answers.specs.Tests.{askedAll};
+ghost use Rattle.answers.specs.declared.Gate.the-variants.{Open};
+ghost use Rattle.reading.specs.Notes.{noteHeaderOf};
+ghost use Rattle.elf.specs.NoteWalk.{turnBy, turnAt, entryOf, noteOf};
+ghost use Rattle.elf.specs.declared.notes.Turn.the-variants.{Found, Skip};
+ghost use Rattle.elf.specs.Notes.{isWanted, pvhTests, sizeTests, noteLength, descriptorAt};
 use crate::ElfNote;
 use crate::NoteAnswer;
 use answers::Refusal;
@@ -26,28 +31,29 @@ use guest::PvhBootCapability;
 use guest::PvhNote;
 use reading::NoteHeader;
 
-// What one note says to the walk: its descriptor is wanted, or the next note is so many bytes further.
+// What one note says to the walk: it is the PVH note, with this descriptor, or the next note is so many bytes further.
 pub enum Turn {
     Found(ImagePlace, u64),
     Skip(u64),
     Refused(Refusal),
 }
 
-// What a walk finds: the place and the size of the wanted descriptor.
+// What a walk finds: where the descriptor of the PVH note begins, and its size.
 pub enum Walk {
     Found(ImagePlace, u64),
     NotFound,
     Refused(Refusal),
 }
 
+// It, and how many note headers were read; a refusal has no count.
 pub struct Walked {
     pub walk: Walk,
     pub headers: u64,
 }
 
-// A note that is not wanted: both its sizes are tested, which then fit 32 bits, and it is passed over.
+// A note that is not the PVH note: both its sizes are tested, which then fit 32 bits, and it is passed over.
 fn skip(note: NoteHeader) -> Turn
-    ensures { λ r. ⌜ r ≡ skipOf note ⌝ }
+    ensures { λ r. ⌜ r ≡ turnBy (askedAll Open (sizeTests note)) (Skip (noteLength note)) ⌝ }
 {
     if 0xFFFF_FFFC < note.n_namesz {
         return Turn::Refused(Refusal::Overflow);
@@ -60,6 +66,21 @@ fn skip(note: NoteHeader) -> Turn
     Turn::Skip(12 + name + desc)
 }
 
+// The PVH note, whose header is at an offset of the image: the size of its descriptor, then its first four bytes.
+fn pvh_note(image: &[u8], at: ImagePlace, size: u64) -> Turn
+    requires { ⌜ (at .0 + 16 ≤ length (now image)) × (size ≡ noteHeaderOf (now image) (at .0) .«n_descsz») ⌝ }
+    ensures { λ r. ⌜ r ≡ turnBy (askedAll Open (pvhTests (now (image .entry)) (at .0))) (Found (record { 0 = descriptorAt (at .0) }) size) ⌝ }
+{
+    if size < 4 {
+        return Turn::Refused(Refusal::InvalidPvhNote);
+    }
+    let place = at.0 + 16;
+    if !ranges::within(image.len() as u64, place, 4) {
+        return Turn::Refused(Refusal::ReadNoteHeader);
+    }
+    Turn::Found(ImagePlace(place), size)
+}
+
 // Do a note's type and name size say that its name has to be looked at?
 fn is_wanted(note: NoteHeader) -> bool
     ensures { λ r. ⌜ r ≡ isWanted note ⌝ }
@@ -70,7 +91,8 @@ fn is_wanted(note: NoteHeader) -> bool
     note.n_namesz == 4
 }
 
-// The note whose header stands at a place. The header's 12 bytes are lent on: in a slice of known length no field asks for its bounds.
+// The note whose header is at an offset of the image. Its 12 bytes are a slice of known length, in which no field is
+// tested for its bounds.
 fn note_at(image: &[u8], at: u64) -> Turn
     requires { ⌜ at + 12 ≤ length (now image) ⌝ }
     ensures { λ r. ⌜ r ≡ turnAt (now (image .entry)) at ⌝ }
@@ -86,12 +108,12 @@ fn note_at(image: &[u8], at: u64) -> Turn
     if !tags::is_tag(image, at + 12, b"Xen\0") {
         return skip(note);
     }
-    Turn::Found(ImagePlace(at + 16), note.n_descsz)
+    pvh_note(image, ImagePlace(at), note.n_descsz)
 }
 
 // Note after note, from p_offset on, while fewer than p_filesz bytes are read.
 fn walk_notes(image: &[u8], p_offset: ImagePlace, p_filesz: u64) -> Walked
-    ensures { λ r. ⌜ r ≡ walkOf (now (image .entry)) «p_offset» «p_filesz» ⌝ }
+    ensures { λ r. ⌜ noteOf (now (image .entry)) r ≡ entryOf (now (image .entry)) «p_offset» «p_filesz» ⌝ }
 {
     let from = p_offset.0;
     let len = image.len() as u64;
@@ -101,7 +123,7 @@ fn walk_notes(image: &[u8], p_offset: ImagePlace, p_filesz: u64) -> Walked
         if !ranges::within(len, from, read + 12) {
             return Walked {
                 walk: Walk::Refused(Refusal::ReadNoteHeader),
-                headers: headers,
+                headers: 0,
             };
         }
         headers += 1;
@@ -116,7 +138,7 @@ fn walk_notes(image: &[u8], p_offset: ImagePlace, p_filesz: u64) -> Walked
             Turn::Refused(r) => {
                 return Walked {
                     walk: Walk::Refused(r),
-                    headers: headers,
+                    headers: 0,
                 };
             }
             Turn::Skip(n) => {
@@ -130,7 +152,7 @@ fn walk_notes(image: &[u8], p_offset: ImagePlace, p_filesz: u64) -> Walked
     }
 }
 
-// The PVH entry that the notes give, and the headers read, whatever the answer is.
+// The PVH entry that the notes give, and the headers read.
 pub(crate) fn entry(image: &[u8], p_offset: ImagePlace, p_filesz: u64) -> ElfNote
     ensures { λ r. ⌜ r ≡ entryOf (now (image .entry)) «p_offset» «p_filesz» ⌝ }
 {
@@ -149,20 +171,7 @@ pub(crate) fn entry(image: &[u8], p_offset: ImagePlace, p_filesz: u64) -> ElfNot
             headers: headers,
         };
     };
-    if size < 4 {
-        return ElfNote {
-            answer: NoteAnswer::Refused(Refusal::InvalidPvhNote),
-            headers: headers,
-        };
-    }
-    let at = place.0;
-    if !ranges::within(image.len() as u64, at, 4) {
-        return ElfNote {
-            answer: NoteAnswer::Refused(Refusal::ReadNoteHeader),
-            headers: headers,
-        };
-    }
-    let address = numbers::read_u32(image, at);
+    let address = numbers::read_u32(image, place.0);
     let note = PvhNote {
         entry: GuestAddress(address),
         place: place,
@@ -171,22 +180,5 @@ pub(crate) fn entry(image: &[u8], p_offset: ImagePlace, p_filesz: u64) -> ElfNot
     ElfNote {
         answer: NoteAnswer::Says(PvhBootCapability::PvhEntryPresent(note)),
         headers: headers,
-    }
-}
-
-// A refusal is told alone: no headers beside it.
-pub(crate) fn told(note: ElfNote) -> ElfNote
-    ensures { λ r. ⌜ r ≡ toldOf note ⌝ }
-{
-    let answer = note.answer;
-    match answer {
-        NoteAnswer::Says(pvh) => ElfNote {
-            answer: NoteAnswer::Says(pvh),
-            headers: note.headers,
-        },
-        NoteAnswer::Refused(r) => ElfNote {
-            answer: NoteAnswer::Refused(r),
-            headers: 0,
-        },
     }
 }

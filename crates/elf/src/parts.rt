@@ -13,6 +13,7 @@ use fields::ranges;
 use guest::Answer;
 use guest::Given;
 use guest::GuestAddress;
+use guest::ImagePlace;
 use guest::Memory;
 use guest::Part;
 use guest::addresses;
@@ -33,12 +34,13 @@ pub fn count(image: &[u8]) -> u64
 }
 
 // The part of a program header: its file bytes, if it is loadable.
-fn part_of(shift: u64, h: ProgramHeader) -> Part
-    ensures { λ r. ⌜ r ≡ headerPart shift h ⌝ }
+fn part_of(shift: GuestAddress, h: ProgramHeader) -> Part
+    ensures { λ r. ⌜ r ≡ headerPart (shift .0) h ⌝ }
 {
     if h.p_type != 1 {
         return parts::nothing();
     }
+    let shift = shift.0;
     let p_paddr = h.p_paddr.0;
     if !ranges::sum_fits(shift, p_paddr) {
         return parts::nothing();
@@ -52,28 +54,28 @@ fn part_of(shift: u64, h: ProgramHeader) -> Part
 }
 
 // The part of a program header whose bytes these are; fewer than its 56 bytes have none.
-pub fn of_header(header: &[u8], shift: u64) -> Part
-    ensures { λ r. ⌜ r ≡ ownPart (now (header .entry)) shift ⌝ }
+pub fn of_header(header: &[u8], shift: GuestAddress) -> Part
+    ensures { λ r. ⌜ r ≡ ownPart (now (header .entry)) (shift .0) ⌝ }
 {
     if header.len() < 56 {
         return parts::nothing();
     }
-    part_of(shift, program_headers::read_at(header, 0))
+    part_of(shift, program_headers::read_at(header, ImagePlace(0)))
 }
 
 // Where the program headers begin in the image.
-pub fn table(image: &[u8]) -> u64
-    ensures { λ r. ⌜ r ≡ e-phoff (now (image .entry)) ⌝ }
+pub fn table(image: &[u8]) -> ImagePlace
+    ensures { λ r. ⌜ r ≡ record { 0 = e-phoff (now (image .entry)) } ⌝ }
 {
-    numbers::read_u64(image, 32)
+    ImagePlace(numbers::read_u64(image, 32))
 }
 
 // The part of program header i of those from e_phoff on, if the header lies in the image.
-fn part_at(image: &[u8], shift: u64, e_phoff: u64, i: u64) -> Part
-    requires { ⌜ («e_phoff» ≡ e-phoff (now image)) × (i < 65536) ⌝ }
-    ensures { λ r. ⌜ r ≡ partAt (now (image .entry)) shift i ⌝ }
+fn part_at(image: &[u8], shift: GuestAddress, e_phoff: ImagePlace, i: u64) -> Part
+    requires { ⌜ («e_phoff» .0 ≡ e-phoff (now image)) × (i < 65536) ⌝ }
+    ensures { λ r. ⌜ r ≡ partAt (now (image .entry)) (shift .0) i ⌝ }
 {
-    if !ranges::within(image.len() as u64, e_phoff, 56 * i + 56) {
+    if !ranges::within(image.len() as u64, e_phoff.0, 56 * i + 56) {
         return parts::nothing();
     }
     part_of(shift, program_headers::read_header(image, e_phoff, i))
@@ -86,7 +88,7 @@ pub fn part(image: &[u8], kernel_offset: Given, i: u64) -> Part
     if numbers::read_u16(image, 56) <= i {
         return parts::nothing();
     }
-    let shift = addresses::amount(kernel_offset);
-    let e_phoff = numbers::read_u64(image, 32);
+    let shift = GuestAddress(addresses::amount(kernel_offset));
+    let e_phoff = table(image);
     part_at(image, shift, e_phoff, i)
 }

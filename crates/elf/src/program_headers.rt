@@ -29,11 +29,12 @@ pub struct ProgramHeader {
 
 // The program header at a place of the image. Its 56 bytes are a slice of known length, in which no field is tested
 // for its bounds.
-pub(crate) fn read_at(image: &[u8], at: u64) -> ProgramHeader
-    requires { ⌜ at + 56 ≤ length (now image) ⌝ }
-    ensures { λ r. ⌜ r ≡ headerAt (now (image .entry)) at ⌝ }
+pub(crate) fn read_at(image: &[u8], at: ImagePlace) -> ProgramHeader
+    requires { ⌜ at .0 + 56 ≤ length (now image) ⌝ }
+    ensures { λ r. ⌜ r ≡ headerAt (now (image .entry)) (at .0) ⌝ }
 {
-    let header = &image[at as usize..at as usize + 56];
+    let from = at.0 as usize;
+    let header = &image[from..from + 56];
     let p_type = numbers::read_u32(header, 0);
     let p_offset = numbers::read_u64(header, 8);
     let p_paddr = numbers::read_u64(header, 24);
@@ -49,9 +50,10 @@ pub(crate) fn read_at(image: &[u8], at: u64) -> ProgramHeader
 }
 
 // Program header i, which lies in the image, of those from e_phoff on.
-pub(crate) fn read_header(image: &[u8], e_phoff: u64, i: u64) -> ProgramHeader
-    requires { ⌜ («e_phoff» ≡ e-phoff (now image)) × (headerPlace (now image) i + 56 ≤ length (now image)) ⌝ }
+pub(crate) fn read_header(image: &[u8], e_phoff: ImagePlace, i: u64) -> ProgramHeader
+    requires { ⌜ («e_phoff» .0 ≡ e-phoff (now image)) × (headerPlace (now image) i + 56 ≤ length (now image)) ⌝ }
     ensures { λ r. ⌜ r ≡ headerOf (now (image .entry)) i ⌝ }
 {
-    read_at(image, e_phoff + 56 * i)
+    let first = e_phoff.0;
+    read_at(image, ImagePlace(first + 56 * i))
 }

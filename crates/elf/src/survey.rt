@@ -10,10 +10,15 @@
 
 // The survey: each program header in turn, up to the first that refuses. Nothing is written before all have passed.
 ghost use mathlib.Core.Path.{_≡_};
-ghost use Prim.Native.Nat.{max};
+ghost use Prim.Native.Nat.{_+_, max};
+ghost use Rattle.answers.specs.Tests.{asked, askedAll};
+ghost use Rattle.answers.specs.declared.Gate.the-variants.{Open};
+ghost use Rattle.answers.specs.declared.Refusal.the-variants.{MemoryOverflow};
+ghost use Rattle.fields.specs.Ranges.{fits64};
+ghost use Rattle.guest.specs.Room.{room};
 ghost use Rattle.elf.specs.Header.{e-phoff};
 ghost use Rattle.elf.specs.ProgramHeaders.{HeadersStand};
-ghost use Rattle.elf.specs.Survey.{endStep, segmentStep, memoryStep, kindStep, loadStep, noteStep, stepOf, firstFound, advanced, blank, surveyFrom};
+ghost use Rattle.elf.specs.Survey.{segmentTests, memoryTests, endOf, stepBy, loadStep, noteStep, stepOf, firstFound, advanced, blank, surveyFrom};
 ghost use Rattle.elf.specs.Pouring.{planOf};
 use crate::NoteAnswer;
 use crate::header;
@@ -27,6 +32,7 @@ use fields::ranges;
 use guest::Answer;
 use guest::Given;
 use guest::GuestAddress;
+use guest::ImagePlace;
 use guest::KernelLoaderResult;
 use guest::Memory;
 use guest::PvhBootCapability;
@@ -46,48 +52,56 @@ pub enum Step {
     Stop(Refusal),
 }
 
-// The end of a segment's memory, of this size from an address on.
-fn end_step(at: u64, size: u64) -> Step
-    ensures { λ r. ⌜ r ≡ endStep at size ⌝ }
+// The end of a segment's memory, of this size from an address on, if no test before it refused.
+fn end_step(gate: Gate, at: u64, size: u64) -> Step
+    ensures { λ r. ⌜ r ≡ stepBy (asked gate (fits64 at size) MemoryOverflow) (record { 0 = at + size }) ⌝ }
 {
-    if !ranges::sum_fits(at, size) {
-        return Step::Stop(Refusal::MemoryOverflow);
+    match gate {
+        Gate::Shut(r) => Step::Stop(r),
+        Gate::Open => {
+            if !ranges::sum_fits(at, size) {
+                return Step::Stop(Refusal::MemoryOverflow);
+            }
+            Step::Pass(Effect::EndsAt(GuestAddress(at + size)))
+        }
     }
-    Step::Pass(Effect::EndsAt(GuestAddress(at + size)))
 }
 
 // A loadable segment with file bytes.
-fn segment_step(image_len: u64, memory: Memory, shift: u64, h: ProgramHeader) -> Step
-    ensures { λ r. ⌜ r ≡ segmentStep «image_len» memory shift h ⌝ }
+fn segment_step(image_len: u64, memory: Memory, shift: GuestAddress, h: ProgramHeader) -> Step
+    ensures { λ r. ⌜ r ≡ stepBy (askedAll Open (segmentTests «image_len» (room memory) (shift .0) h)) (endOf (shift .0) h) ⌝ }
 {
+    let shift = shift.0;
     let p_paddr = h.p_paddr.0;
+    if h.p_memsz < h.p_filesz {
+        return Step::Stop(Refusal::InvalidProgramHeaderFileSize);
+    }
     if !ranges::sum_fits(shift, p_paddr) {
         return Step::Stop(Refusal::InvalidProgramHeaderAddress);
     }
     let at = shift + p_paddr;
-    if !ranges::within(image_len, h.p_offset.0, h.p_filesz) {
-        return Step::Stop(Refusal::ReadKernelImage);
-    }
-    if !room::has_room(memory, GuestAddress(at), h.p_filesz) {
-        return Step::Stop(Refusal::ReadKernelImage);
-    }
-    end_step(at, h.p_memsz)
+    let in_image = ranges::within(image_len, h.p_offset.0, h.p_filesz);
+    let gate = answers::require(Gate::Open, in_image, Refusal::ReadKernelImage);
+    let has_room = room::has_room(memory, GuestAddress(at), h.p_filesz);
+    let gate = answers::require(gate, has_room, Refusal::ReadKernelImage);
+    end_step(gate, at, h.p_memsz)
 }
 
-// A loadable segment of memory alone: nothing is read or written, and room is not asked.
-fn memory_step(shift: u64, h: ProgramHeader) -> Step
-    ensures { λ r. ⌜ r ≡ memoryStep shift h ⌝ }
+// A loadable segment of memory only: nothing is read or written, and no room is needed.
+fn memory_step(shift: GuestAddress, h: ProgramHeader) -> Step
+    ensures { λ r. ⌜ r ≡ stepBy (askedAll Open (memoryTests (shift .0) h)) (endOf (shift .0) h) ⌝ }
 {
+    let shift = shift.0;
     let p_paddr = h.p_paddr.0;
     if !ranges::sum_fits(shift, p_paddr) {
         return Step::Stop(Refusal::InvalidProgramHeaderAddress);
     }
-    end_step(shift + p_paddr, h.p_memsz)
+    end_step(Gate::Open, shift + p_paddr, h.p_memsz)
 }
 
-// A loadable segment by its kind: with file bytes, of memory alone, or empty.
-fn kind_step(image_len: u64, memory: Memory, shift: u64, h: ProgramHeader) -> Step
-    ensures { λ r. ⌜ r ≡ kindStep «image_len» memory shift h ⌝ }
+// A loadable segment: with file bytes, of memory only, or empty.
+fn load_step(image_len: u64, memory: Memory, shift: GuestAddress, h: ProgramHeader) -> Step
+    ensures { λ r. ⌜ r ≡ loadStep «image_len» (room memory) (shift .0) h ⌝ }
 {
     if h.p_filesz == 0 {
         if h.p_memsz == 0 {
@@ -96,16 +110,6 @@ fn kind_step(image_len: u64, memory: Memory, shift: u64, h: ProgramHeader) -> St
         return memory_step(shift, h);
     }
     segment_step(image_len, memory, shift, h)
-}
-
-// A loadable segment. Its file size never exceeds its memory size.
-fn load_step(image_len: u64, memory: Memory, shift: u64, h: ProgramHeader) -> Step
-    ensures { λ r. ⌜ r ≡ loadStep «image_len» memory shift h ⌝ }
-{
-    if h.p_memsz < h.p_filesz {
-        return Step::Stop(Refusal::InvalidProgramHeaderFileSize);
-    }
-    kind_step(image_len, memory, shift, h)
 }
 
 // A note header. With an offset it is not walked.
@@ -126,11 +130,12 @@ fn note_step(image: &[u8], offset: Given, h: ProgramHeader) -> Step
 
 // Any program header.
 fn examine(image: &[u8], memory: Memory, offset: Given, h: ProgramHeader) -> Step
-    ensures { λ r. ⌜ r ≡ stepOf (now (image .entry)) memory offset h ⌝ }
+    ensures { λ r. ⌜ r ≡ stepOf (now (image .entry)) (room memory) offset h ⌝ }
 {
     let p_type = h.p_type;
     if p_type == 1 {
-        return load_step(image.len() as u64, memory, addresses::amount(offset), h);
+        let shift = GuestAddress(addresses::amount(offset));
+        return load_step(image.len() as u64, memory, shift, h);
     }
     if p_type == 4 {
         return note_step(image, offset, h);
@@ -183,11 +188,11 @@ fn survey(
     memory: Memory,
     offset: Given,
     load: GuestAddress,
-    e_phoff: u64,
+    e_phoff: ImagePlace,
     n: u64,
 ) -> Answer
-    requires { ⌜ («e_phoff» ≡ e-phoff (now image)) × HeadersStand (now image) n ⌝ }
-    ensures { λ r. ⌜ r ≡ surveyFrom n (now (image .entry)) memory offset 0 (blank load) ⌝ }
+    requires { ⌜ («e_phoff» .0 ≡ e-phoff (now image)) × HeadersStand (now image) n ⌝ }
+    ensures { λ r. ⌜ r ≡ surveyFrom n (now (image .entry)) (room memory) offset 0 (blank load) ⌝ }
 {
     let mut result = KernelLoaderResult {
         kernel_load: load,
@@ -220,7 +225,7 @@ pub(crate) fn answer_load(image: &[u8], memory: Memory, offset: Given, highmem: 
         Gate::Shut(r) => Answer::Refused(r),
         Gate::Open => {
             let load = addresses::amount(offset) + numbers::read_u64(image, 24);
-            let e_phoff = numbers::read_u64(image, 32);
+            let e_phoff = ImagePlace(numbers::read_u64(image, 32));
             let e_phnum = numbers::read_u16(image, 56);
             survey(image, memory, offset, GuestAddress(load), e_phoff, e_phnum)
         }

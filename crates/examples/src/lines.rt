@@ -122,7 +122,7 @@ fn init_only() {
     printing::word(b"\n");
 }
 
-pub fn print() {
+pub(crate) fn print() {
     device(b"device 4096, 4096, 5, 42:", 4096, DeviceId::Number(42));
     device(b"device 4097, 4096, 5:", 4097, DeviceId::Nothing);
     device(b"device 0, 4096, 5, 42:", 0, DeviceId::Number(42));

@@ -106,7 +106,7 @@ fn arm64_too_short() {
     arm64(&mut image, 128, 0);
 }
 
-pub fn print() {
+pub(crate) fn print() {
     bzimage_shorter_than_its_setup();
     bzimage_of_no_kernel();
     bzimage_at_an_offset();

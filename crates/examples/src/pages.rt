@@ -74,7 +74,7 @@ fn empty_row() {
     page_of(&[0, 0, 1]);
 }
 
-pub fn print() {
+pub(crate) fn print() {
     apart();
     overlapping();
     empty_row();

@@ -4,17 +4,17 @@ use guest::Answer;
 use guest::PvhBootCapability;
 use libc::STDOUT_FILENO;
 
-pub fn word(text: &[u8]) {
+pub(crate) fn word(text: &[u8]) {
     io::write_all(STDOUT_FILENO, text);
 }
 
 // A space and a number.
-pub fn number(n: u64) {
+pub(crate) fn number(n: u64) {
     word(b" ");
     io::print_decimal(STDOUT_FILENO, n);
 }
 
-pub fn refusal(refusal: Refusal) {
+pub(crate) fn refusal(refusal: Refusal) {
     word(b" refused");
     number(answers::number(refusal) as u64);
 }
@@ -33,14 +33,14 @@ fn hex(bytes: &[u8]) {
 }
 
 // Guest memory, which ends the line.
-pub fn guest(guest: &[u8]) {
+pub(crate) fn guest(guest: &[u8]) {
     word(b" guest ");
     hex(guest);
     word(b"\n");
 }
 
 // A space and a number, for each.
-pub fn list(list: &[u64]) {
+pub(crate) fn list(list: &[u64]) {
     let mut i = 0;
     while i < list.len() {
         number(list[i]);
@@ -59,7 +59,7 @@ fn pvh(pvh: PvhBootCapability) {
     }
 }
 
-pub fn answer(answer: Answer) {
+pub(crate) fn answer(answer: Answer) {
     match answer {
         Answer::Refused(r) => refusal(r),
         Answer::Loaded(kernel) => {

@@ -73,7 +73,7 @@ fn changed(what: &[u8], at: u64) {
     write_and_change(&mut guest, at);
 }
 
-pub fn print() {
+pub(crate) fn print() {
     written(b"start block, modules right after it:", 56);
     written(b"start block, modules over its last byte:", 55);
     written(b"start block, modules past guest memory:", 112);

@@ -86,7 +86,7 @@ fn print_in_one() {
     in_one(&mut image, &mut guest);
 }
 
-pub fn print() {
+pub(crate) fn print() {
     print_in_twos();
     print_in_one();
 }

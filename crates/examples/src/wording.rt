@@ -39,7 +39,7 @@ fn read(line: &[u8]) {
     read_into(line, &mut starts, &mut ends, &mut splits);
 }
 
-pub fn print() {
+pub(crate) fn print() {
     read(b"a=\"x y\"  \"b=c\"=d quiet");
     read(b"root=/dev/sda1 ro");
     read(b"a \"b");

@@ -1,14 +1,14 @@
 -- Laws of maps as lists of numbers.
 use mathlib.Core.Path.{_≡_, sym, _∙_, refl, ap}
-use mathlib.Core.List.{List, []}
-use Prim.Native.Nat.{ℕ, zero, suc, _/_, _%_, _≤_, min}
+use mathlib.Core.List.{List, [], _∷_}
+use Prim.Native.Nat.{ℕ, zero, suc, _/_, _%_, _≤_, _<_, min}
 use native.Mathlib.Omega.{arith}
 use borrow.Author.Tests.{eq-eqb, ne-eqb}
 use lib.ListN.{length, getD, set, replicate}
 use lib.Seq.{sets}
 use Rattle.answers.specs.Pick.{pick}
 use Rattle.fields.proofs.CopyingLaws.{sets-whole}
-use Rattle.guest.specs.Maps.{everySecond, rangeCount, mostRanges}
+use Rattle.guest.specs.Maps.{mapOf, wholeMap, everySecond, rangeCount, mostRanges}
 
 length-second : (k : ℕ) (numbers : List ℕ) (at : ℕ) → length (everySecond k numbers at) ≡ k
 unfolding everySecond
@@ -37,3 +37,12 @@ count-odd n odd = rw (ne-eqb (n % 2) 0 odd)
 pub count-even : (n : ℕ) → n % 2 ≡ 0 → rangeCount n ≡ min (n / 2) (suc mostRanges)
 unfolding rangeCount pick
 count-even n even = rw (eq-eqb (n % 2) 0 even)
+
+-- the list 0, len is the whole of a slice of this length, and the empty list that of an empty one
+pub whole-numbers : (len : ℕ) → 0 < len → mapOf (0 ∷ len ∷ []) ≡ wholeMap len
+unfolding everySecond rangeCount pick
+whole-numbers len some = rw (ne-eqb len 0 (λ e. omega arith))
+
+pub none-numbers : mapOf [] ≡ wholeMap 0
+unfolding everySecond rangeCount pick
+none-numbers = refl

@@ -1,19 +1,19 @@
 -- Laws of memory maps: range by range as a loop asks them, what the tests mean, and maps that grow.
-use mathlib.Core.Path.{_≡_, sym, _∙_, refl, ap}
+use mathlib.Core.Path.{_≡_, sym, _∙_, refl, ap, subst}
 use mathlib.Core.Bool.{Bool, true, false, _&&_, _||_}
 use mathlib.Core.List.{List, [], _∷_, _++_}
 use mathlib.Core.Logic.{_⊎_, ⊎-elim}
 use Prim.Native.Nat.{ℕ, zero, suc, _+_, _-_, _≤_, _<_, min}
 use native.Mathlib.Omega.{arith}
 use native.Mathlib.Decide.{decLe}
-use borrow.Author.Tests.{leb-true, le-leb, lt-leb, ltb-true, lt-ltb, le-ltb, eq-eqb, ne-eqb, eqb-false}
+use borrow.Author.Tests.{leb-true, le-leb, lt-leb, ltb-true, lt-ltb, le-ltb, eq-eqb, ne-eqb, eqb-true, eqb-false}
 use lib.Dec.{leb, ltb, eqb}
 use lib.ListN.{getD}
 use Rattle.answers.specs.Pick.{pick}
 use Rattle.answers.proofs.BoolLaws.{both-held, one-held, right-holds}
 use Rattle.fields.specs.Ranges.{liesWithin}
 use Rattle.fields.proofs.RangesLaws.{within-sum, sum-within}
-use Rattle.guest.specs.Maps.{Range, rangesFrom, inRange, inRanges, goodRange, goodRanges, floorOf, goodMap, wholeMap, mostRanges, rangesOf, sameFrom, sameMap}
+use Rattle.guest.specs.Maps.{Range, rangesFrom, inRange, inRanges, goodRange, goodRanges, floorOf, goodMap, wholeMap, mostRanges, rangesOf, sameRanges, sameMap}
 use Rattle.guest.specs.declared.Map.{Map}
 
 -- ---- range by range, as a loop goes: of k ranges from i on, the first and the rest
@@ -171,42 +171,65 @@ whole-in len address n some fits = rw (whole-ranges len some) (in-here (0, len) 
 
 -- ---- the same ranges, as a loop asks
 
+-- k ranges from range i on, of two lists of starts and two of sizes
+abbrev pub sameFrom : ℕ → List ℕ → List ℕ → List ℕ → List ℕ → ℕ → Bool
+sameFrom k starts sizes starts' sizes' i = sameRanges (rangesFrom k starts sizes i) (rangesFrom k starts' sizes' i)
+
 module _ (starts sizes starts' sizes' : List ℕ) (i : ℕ) where
   pub same-next : {k : ℕ} (j next : ℕ) → k ≡ suc j → next ≡ suc i → getD starts i 0 ≡ getD starts' i 0 → getD sizes i 0 ≡ getD sizes' i 0
       → sameFrom k starts sizes starts' sizes' i ≡ sameFrom j starts sizes starts' sizes' next
-  unfolding sameFrom
+  unfolding sameRanges rangesFrom
   same-next j next ek en es ez = rw (ek, en, eq-eqb (getD starts i 0) (getD starts' i 0) es, eq-eqb (getD sizes i 0) (getD sizes' i 0) ez)
 
   pub other-start : {k : ℕ} (j : ℕ) → k ≡ suc j → (getD starts i 0 ≡ getD starts' i 0 → ⊥) → sameFrom k starts sizes starts' sizes' i ≡ false
-  unfolding sameFrom
+  unfolding sameRanges rangesFrom
   other-start j ek ne = rw (ek, ne-eqb (getD starts i 0) (getD starts' i 0) ne)
 
   pub other-size : {k : ℕ} (j : ℕ) → k ≡ suc j → getD starts i 0 ≡ getD starts' i 0 → (getD sizes i 0 ≡ getD sizes' i 0 → ⊥)
       → sameFrom k starts sizes starts' sizes' i ≡ false
-  unfolding sameFrom
+  unfolding sameRanges rangesFrom
   other-size j ek es ne = rw (ek, eq-eqb (getD starts i 0) (getD starts' i 0) es, ne-eqb (getD sizes i 0) (getD sizes' i 0) ne)
 
   pub same-end : {k : ℕ} → k ≡ 0 → sameFrom k starts sizes starts' sizes' i ≡ true
-  unfolding sameFrom
+  unfolding sameRanges rangesFrom
   same-end ek = rw ek
-
--- a map is the same as itself
-same-self : (k : ℕ) (starts sizes : List ℕ) (i : ℕ) → sameFrom k starts sizes starts sizes i ≡ true
-unfolding sameFrom
-same-self zero starts sizes i = refl
-same-self (suc k) starts sizes i =
-    rw (eq-eqb (getD starts i 0) (getD starts i 0) refl, eq-eqb (getD sizes i 0) (getD sizes i 0) refl) (same-self k starts sizes (suc i))
-
-pub map-self : (map : Map) → sameMap map map ≡ true
-unfolding sameMap
-map-self map = rw (eq-eqb (map .count) (map .count) refl) (same-self (min (map .count) mostRanges) (map .starts) (map .sizes) 0)
 
 -- the counts are compared first
 pub same-counted : (a b : Map) {k : ℕ} → a .count ≡ b .count → k ≡ min (a .count) mostRanges
     → sameMap a b ≡ sameFrom k (a .starts) (a .sizes) (b .starts) (b .sizes) 0
 unfolding sameMap
-same-counted a b ec ek = rw (eq-eqb (a .count) (b .count) ec, ek)
+same-counted a b ec ek = rw (eq-eqb (a .count) (b .count) ec, ← ec, ek)
 
 pub other-count : (a b : Map) → (a .count ≡ b .count → ⊥) → sameMap a b ≡ false
 unfolding sameMap
 other-count a b ne = rw (ne-eqb (a .count) (b .count) ne)
+
+-- ---- what it means: the same ranges, and as many
+
+ranges-self : (rs : List Range) → sameRanges rs rs ≡ true
+unfolding sameRanges
+ranges-self [] = refl
+ranges-self (r ∷ rs) = rw (eq-eqb (r .0) (r .0) refl, eq-eqb (r .1) (r .1) refl) (ranges-self rs)
+
+ranges-mean : (rs ss : List Range) → sameRanges rs ss ≡ true → rs ≡ ss
+unfolding sameRanges
+ranges-mean [] [] e = refl
+ranges-mean [] (s ∷ ss) e = absurd (let w : _≡_ {A = ℕ} 0 1 = cc in omega arith)
+ranges-mean (r ∷ rs) [] e = absurd (let w : _≡_ {A = ℕ} 0 1 = cc in omega arith)
+ranges-mean ((a, b) ∷ rs) ((c, d) ∷ ss) e =
+    let first = both-held (eqb a c) (eqb b d && sameRanges rs ss) e in
+    let rest = both-held (eqb b d) (sameRanges rs ss) (first .1) in
+    rw (eqb-true a c (first .0), eqb-true b d (rest .0), ranges-mean rs ss (rest .1))
+
+pub same-means : (a b : Map) → sameMap a b ≡ true → (a .count ≡ b .count) × (rangesOf a ≡ rangesOf b)
+unfolding sameMap
+same-means a b e =
+    let both = both-held (eqb (a .count) (b .count)) (sameRanges (rangesOf a) (rangesOf b)) e in
+    (eqb-true (a .count) (b .count) (both .0), ranges-mean (rangesOf a) (rangesOf b) (both .1))
+
+pub means-same : (a b : Map) → a .count ≡ b .count → rangesOf a ≡ rangesOf b → sameMap a b ≡ true
+unfolding sameMap
+means-same a b ec er = rw (eq-eqb (a .count) (b .count) ec) (subst (λ rs. sameRanges (rangesOf a) rs ≡ true) er (ranges-self (rangesOf a)))
+
+pub map-self : (map : Map) → sameMap map map ≡ true
+map-self map = means-same map map refl refl

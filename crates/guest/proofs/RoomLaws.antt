@@ -1,11 +1,12 @@
 -- Laws of room, of memory that grows, and of allowed sizes. Whoever asks for room cites these and does not look behind the name.
 use mathlib.Core.Path.{_≡_, sym, _∙_, refl, ap, subst, subst⁻¹}
 use mathlib.Core.Bool.{Bool, true, false, _&&_, and-false}
-use mathlib.Core.List.{List, _∷_, _++_}
+use mathlib.Core.List.{List, [], _∷_, _++_}
 use Prim.Native.Nat.{ℕ, _+_, _≤_, _<_}
 use native.Mathlib.Omega.{arith}
 use native.Mathlib.Decide.{decLe}
 use borrow.Author.Tests.{le-leb, eq-eqb}
+use lib.Dec.{leb}
 use lib.ListN.{length, length-append}
 use Rattle.answers.specs.Keeping.{Widens, end, stays}
 use Rattle.answers.specs.Tests.{Test, asked, askedAll}
@@ -16,7 +17,7 @@ use Rattle.answers.proofs.BoolLaws.{both-held}
 use Rattle.answers.proofs.TestsLaws.{holds-passed}
 use Rattle.fields.specs.Ranges.{liesWithin}
 use Rattle.fields.proofs.RangesLaws.{within-sum, sum-within, sum-beyond}
-use Rattle.guest.specs.Maps.{rangesOf, inRanges, goodMap, wholeMap}
+use Rattle.guest.specs.Maps.{rangesOf, inRanges, mostRanges, goodRanges, goodMap, wholeMap}
 use Rattle.guest.specs.Room.{room, sameMemory, Grows, Larger, slice-longer, range-added, last-longer, in-turn, memoryOf, wholeOf}
 use Rattle.guest.specs.Lent.{memoryTests, lentTests}
 use Rattle.guest.specs.Sizes.{allowed, longest}
@@ -111,6 +112,37 @@ pub whole-lent : (gate : Gate) (size : ℕ) (rest : List Test)
     → askedAll gate (memoryTests (wholeOf size) ++ rest) ≡ askedAll gate ((allowed size, SliceTooLong) ∷ rest)
 whole-lent gate size rest =
     rw (whole-good size) (ap (λ g. askedAll g rest) (holds-passed (asked gate (allowed size) SliceTooLong) BadMap))
+
+-- ---- the whole of a slice, and of a longer one
+
+pub whole-grows : (size size' : ℕ) → size ≤ size' → Grows (wholeOf size) (wholeOf size')
+whole-grows size size' longer = split (decLe 1 size')
+  where
+    split : Dec (1 ≤ size') → Grows (wholeOf size) (wholeOf size')
+    split (yes some) =
+        record {
+          rooms = λ address n e. let fits = room-size (wholeOf size) address n e in means-room (wholeOf size') address n (omega arith) (whole-in size' address n some (omega arith));
+        }
+    split (no none) = subst (λ k. Grows (wholeOf size) (wholeOf k)) (let same : size ≡ size' = omega arith in same) (same-grows (wholeOf size))
+
+-- ---- the ranges of a map only: what its unused elements hold makes no difference
+
+module _ (m m' : Memory) (size : m .size ≡ m' .size) (count : m .map .count ≡ m' .map .count) (ranges : rangesOf (m .map) ≡ rangesOf (m' .map)) where
+  pub room-ranges : (address n : ℕ) → room m address n ≡ room m' address n
+  unfolding room
+  room-ranges address n = ap (λ len. liesWithin len address n && inRanges (rangesOf (m .map)) address n) size ∙ ap (λ rs. liesWithin (m' .size) address n && inRanges rs address n) ranges
+
+  pub good-ranges : goodMap (m .size) (m .map) ≡ goodMap (m' .size) (m' .map)
+  unfolding goodMap
+  good-ranges =
+      ap (λ len. leb (m .map .count) mostRanges && goodRanges len 0 (rangesOf (m .map))) size
+      ∙ ap (λ n. leb n mostRanges && goodRanges (m' .size) 0 (rangesOf (m .map))) count
+      ∙ ap (λ rs. leb (m' .map .count) mostRanges && goodRanges (m' .size) 0 rs) ranges
+
+  pub lent-ranges : (imageLength : ℕ) → lentTests imageLength m ≡ lentTests imageLength m'
+  lent-ranges imageLength =
+      ap (λ (a : Bool). (allowed imageLength, SliceTooLong) ∷ (a, SliceTooLong) ∷ (goodMap (m .size) (m .map), BadMap) ∷ []) (ap allowed size)
+      ∙ ap (λ (g : Bool). (allowed imageLength, SliceTooLong) ∷ (allowed (m' .size), SliceTooLong) ∷ (g, BadMap) ∷ []) good-ranges
 
 -- ---- what is lent, before and after
 

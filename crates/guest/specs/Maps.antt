@@ -54,15 +54,16 @@ floorOf i end = pick (eqb i 0) 0 (suc end)
 abbrev pub wholeMap : ℕ → Map
 wholeMap len = record { count = pick (eqb len 0) 0 1; starts = replicate 16 0; sizes = len ∷ replicate 15 0 }
 
--- are k ranges from range i on the same, of two lists of starts and two of sizes?
-unfoldable pub sameFrom : ℕ → List ℕ → List ℕ → List ℕ → List ℕ → ℕ → Bool
-sameFrom zero starts sizes starts' sizes' i = true
-sameFrom (suc k) starts sizes starts' sizes' i =
-    eqb (getD starts i 0) (getD starts' i 0) && (eqb (getD sizes i 0) (getD sizes' i 0) && sameFrom k starts sizes starts' sizes' (suc i))
+-- are two lists of ranges the same?
+unfoldable pub sameRanges : List Range → List Range → Bool
+sameRanges [] [] = true
+sameRanges [] (s ∷ ss) = false
+sameRanges (r ∷ rs) [] = false
+sameRanges (r ∷ rs) (s ∷ ss) = eqb (r .0) (s .0) && (eqb (r .1) (s .1) && sameRanges rs ss)
 
--- are two maps the same, range by range?
+-- are two maps the same, by their ranges?
 unfoldable pub sameMap : Map → Map → Bool
-sameMap a b = eqb (a .count) (b .count) && sameFrom (min (a .count) mostRanges) (a .starts) (a .sizes) (b .starts) (b .sizes) 0
+sameMap a b = eqb (a .count) (b .count) && sameRanges (rangesOf a) (rangesOf b)
 
 -- ---- a map as a list of numbers: start, size, start, size ..
 

@@ -37,10 +37,17 @@ pub record Fits (imageLength : ℕ) (m : Memory) (p : Part) : Type 0 where
   pub in-image : 0 < p .size → liesWithin imageLength (p .place .0) (p .size) ≡ true
   pub in-guest : 0 < p .size → room m (p .address .0) (p .size) ≡ true
 
+-- of a part: how many of q bytes fall into it, and how many bytes it has left after them
+abbrev pub passedIn : Part → ℕ → ℕ
+passedIn p q = min q (p .size)
+
+abbrev pub leftIn : Part → ℕ → ℕ
+leftIn p q = p .size - passedIn p q
+
 -- what a copy of a part after its first `skip` bytes says and leaves, at most a budget of bytes: the part's size, how many were copied, memory
 pub record PartCopied (image : List ℕ) (p : Part) (skip budget : ℕ) (before : List ℕ) (size count : ℕ) (after : List ℕ) : Type 0 where
   pub all : size ≡ p .size
-  pub counted : count ≡ min budget (p .size - min skip (p .size))
+  pub counted : count ≡ min budget (leftIn p skip)
   pub memory : after ≡ pour (take budget (drop skip (partStream image p))) before
 
 -- k parts from part i on, one after another
@@ -60,9 +67,9 @@ pub record Place : Type 0 where
 unfoldable pub placeAfter : ℕ → (ℕ → Part) → ℕ → ℕ → ℕ → Place
 placeAfter zero part i q budget = record { at = i; done = 0 }
 placeAfter (suc k) part i q budget =
-    pick (leb (part i .size - min q (part i .size)) budget)
-    (placeAfter k part (suc i) (q - min q (part i .size)) (budget - (part i .size - min q (part i .size))))
-    (record { at = i; done = min q (part i .size) + budget })
+    pick (leb (leftIn (part i) q) budget)
+    (placeAfter k part (suc i) (q - passedIn (part i) q) (budget - leftIn (part i) q))
+    (record { at = i; done = passedIn (part i) q + budget })
 
 -- a portion: where it ends, how many bytes it copies, and whether nothing is left after it
 abbrev pub portionOf : ℕ → List ℕ → (ℕ → Part) → ℕ → ℕ → ℕ → Plan Portion

@@ -188,7 +188,7 @@ module _ (image : List ℕ) (offset : Given) (i : ℕ) where
   layout-by Arm64 arm64-has-none lt = sym (rw (eq-eqb i 0 (omega arith)))
 
   fits-by : (f : Format) → TableStands image f → i < countBy f image → layoutBy f image offset .«by_table» ≡ true
-      → layoutBy f image offset .table + 56 * i + 56 ≤ length image
+      → layoutBy f image offset .table .0 + 56 * i + 56 ≤ length image
   unfolding layoutBy countBy
   fits-by Elf (headers h) lt is = h .stands i lt
   fits-by BzImage bzimage-has-none lt is = let w : _≡_ {A = ℕ} 0 1 = cc in absurd (omega arith)
@@ -202,9 +202,9 @@ same-parts image p q (suc k) i same = rw (same i (omega arith), same-parts image
 
 module _ (image : List ℕ) (o : Options) (stands : TableStands image (o .format)) {n : ℕ} (counted : n ≡ countOf image o) {l : Layout}
     (laid : l ≡ layoutOf image o) where
-  pub layout-fits : (i : ℕ) → i < n → l .«by_table» ≡ true → l .table + 56 * i + 56 ≤ length image
+  pub layout-fits : (i : ℕ) → i < n → l .«by_table» ≡ true → l .table .0 + 56 * i + 56 ≤ length image
   layout-fits i lt =
-      subst⁻¹ (λ (x : Layout). x .«by_table» ≡ true → x .table + 56 * i + 56 ≤ length image) laid
+      subst⁻¹ (λ (x : Layout). x .«by_table» ≡ true → x .table .0 + 56 * i + 56 ≤ length image) laid
       (fits-by image (o .«kernel_offset») i (o .format) stands (subst (λ k. i < k) counted lt))
 
   pub layout-parts : partsFrom n image (partIn image l) 0 ≡ partsFrom (countOf image o) image (partOf image o) 0

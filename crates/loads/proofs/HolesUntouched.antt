@@ -15,7 +15,7 @@ use Rattle.loads.specs.declared.Options.{Options}
 use Rattle.loads.specs.declared.steps.State.{State}
 use Rattle.loads.specs.declared.steps.Stepped.{Stepped}
 use Rattle.loads.proofs.FormatsLaws.{plan-inside}
-use Rattle.loads.proofs.StepsLaws.{any-step}
+use Rattle.loads.proofs.StepsLaws.{plan-bounded}
 
 pub holes-untouched : (image : List ℕ) (o : Options) (map : Map) (before after : List ℕ) {r : Answer} → LoadSays image o map before r after → (a : ℕ)
     → inRanges (rangesOf map) a 1 ≡ false → getD after a 0 ≡ getD before a 0
@@ -25,4 +25,4 @@ holes-untouched image o map before after says =
 pub step-untouched : (image : List ℕ) (st : State) (b : ℕ) (map : Map) (before after : List ℕ) {r : Stepped} → StepSays image st b map before r after → (a : ℕ)
     → inRanges (rangesOf map) a 1 ≡ false → getD after a 0 ≡ getD before a 0
 step-untouched image st b map before after says =
-    hole-untouched (stepPlan image (memoryOf before map) st b) before after says map (any-step image (memoryOf before map) st b .inside)
+    hole-untouched (stepPlan image (memoryOf before map) st b) before after says map (plan-bounded image (memoryOf before map) st b .inside)

@@ -92,6 +92,12 @@ module _ (image : List ℕ) (m : Memory) (o : Options) where
     done : {st : State} (t : ℕ) → st .options ≡ o → st .progress .stage ≡ Done → st .answer ≡ answerOf image m o → st .progress .«image_len» ≡ length image
         → st .progress .memory ≡ m → length whole ≤ t → At t st
 
+  -- after the first step the answer is kept
+  at-answer : {t : ℕ} {st : State} → 0 < t → At t st → st .answer ≡ answerOf image m o
+  at-answer some (fresh eo es) = absurd (omega arith)
+  at-answer some (copying t eo es ea el em le is-left) = ea
+  at-answer some (done t eo es ea el em past) = ea
+
   -- what one step does there
   record Once (t b : ℕ) (plan : Plan Stepped) : Type 0 where
     writes : plan .stream ≡ take b (drop t whole)
@@ -209,6 +215,7 @@ module _ (image : List ℕ) (m : Memory) (o : Options) where
             written = over .memory ∙ ap (λ ps. pour ps guest) (here .writes);
             reported = ap (λ (x : Stepped). x .copied) (over .answer) ∙ here .reports;
             reply = ap (λ (x : Stepped). x .reply) (over .answer) ∙ here .replies;
+            kept = ap (λ (x : Stepped). x .state .answer) (over .answer) ∙ at-answer (omega arith) (here .leads);
           }
 
       next-at' : At (t + b) (r .state)

@@ -4,6 +4,7 @@ pub mod RefusedUntouched
 pub mod HolesUntouched
 pub mod MoreMemory
 pub mod WholeSlice
+pub mod RangesOnly
 pub mod InPortions
 pub mod WholeStep
 pub mod ByParts

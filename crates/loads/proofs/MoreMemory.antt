@@ -10,7 +10,7 @@ use lib.ListN.{length, length-append}
 use Rattle.answers.specs.Keeping.{Keeps}
 use Rattle.guest.specs.Addresses.{amountOf}
 use Rattle.guest.specs.Loading.{Plan, RefusedFor}
-use Rattle.guest.specs.Maps.{goodMap}
+use Rattle.guest.specs.Maps.{goodMap, wholeMap}
 use Rattle.guest.specs.Room.{Grows, Larger, memoryOf}
 use Rattle.guest.specs.Sizes.{allowed, longest}
 use Rattle.guest.specs.declared.Answer.{Answer}
@@ -18,8 +18,8 @@ use Rattle.guest.specs.declared.Answer.the-variants.{Refused}
 use Rattle.guest.specs.declared.Map.{Map}
 use Rattle.guest.specs.declared.Memory.{Memory}
 use Rattle.guest.proofs.LoadingLaws.{LiftPlan, load-kept}
-use Rattle.guest.proofs.MapsLaws.{good-longer}
-use Rattle.guest.proofs.RoomLaws.{longer-grows, larger-grows, allowed-longer}
+use Rattle.guest.proofs.MapsLaws.{good-longer, whole-good}
+use Rattle.guest.proofs.RoomLaws.{longer-grows, larger-grows, whole-grows, allowed-longer}
 use Rattle.elf.proofs.MoreMemory as elf
 use Rattle.bzimage.proofs.MoreMemory as bzimage
 use Rattle.arm64.proofs.MoreMemory as arm64
@@ -63,3 +63,11 @@ module _ (image : List ℕ) (o : Options) (map : Map) (guest more : List ℕ) {r
   pub guest-larger : (map' : Map) → goodMap (length (guest ++ more)) map' ≡ true → Larger (memoryOf guest map) (memoryOf (guest ++ more) map')
       → LoadSays image o map' (guest ++ more) r' after' → (r' ≡ r) × (after' ≡ after ++ more)
   guest-larger map' good' larger = guest-grows map' good' (larger-grows larger)
+
+-- "guest memory lengthened at its end", with no map: the whole slice before and after
+pub slice-longer : (image : List ℕ) (o : Options) (guest more : List ℕ) {r r' : Answer} {after after' : List ℕ}
+    → LoadSays image o (wholeMap (length guest)) guest r after → length (guest ++ more) ≤ longest → (RefusedFor Refused (ForRoom (o .format)) r → ⊥)
+    → LoadSays image o (wholeMap (length (guest ++ more))) (guest ++ more) r' after' → (r' ≡ r) × (after' ≡ after ++ more)
+slice-longer image o guest more says short stays =
+    guest-grows image o (wholeMap (length guest)) guest more says short (whole-good (length guest)) stays (wholeMap (length (guest ++ more)))
+    (whole-good (length (guest ++ more))) (whole-grows (length guest) (length (guest ++ more)) (simp length-append (omega arith)))

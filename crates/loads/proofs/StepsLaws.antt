@@ -19,9 +19,10 @@ use Rattle.guest.specs.Answers.{isLoaded}
 use Rattle.guest.specs.Lent.{lentTests}
 use Rattle.guest.specs.Loading.{Plan, Loads}
 use Rattle.guest.specs.Parts.{partsFrom, portionOf}
-use Rattle.guest.specs.Room.{sameMemory}
-use Rattle.guest.specs.Stream.{none, pour}
+use Rattle.guest.specs.Room.{sameMemory, memoryOf}
+use Rattle.guest.specs.Stream.{Inside, none, pour}
 use Rattle.guest.specs.declared.Answer.{Answer}
+use Rattle.guest.specs.declared.Map.{Map}
 use Rattle.guest.specs.declared.Memory.{Memory}
 use Rattle.guest.specs.declared.Portion.{Portion}
 use Rattle.guest.proofs.PartsLaws.{parts-inside}
@@ -30,7 +31,7 @@ use Rattle.guest.proofs.StreamLaws.{inside-take, inside-drop}
 use Rattle.loads.specs.Calls.{begunWith, movedTo, isFresh, asFirst, budgetTests, stepTests}
 use Rattle.loads.specs.Formats.{answerOf, countOf}
 use Rattle.loads.specs.Portions.{Bounded}
-use Rattle.loads.specs.Steps.{testedPart, startedState, unchanged, stays, replyAfter, nextPortion, firstStep, byStage, ifOpen, stepPlan}
+use Rattle.loads.specs.Steps.{testedPart, startedState, unchanged, stays, replyAfter, nextPortion, firstStep, byStage, ifOpen, stepPlan, StepSays}
 use Rattle.loads.specs.declared.Options.{Options}
 use Rattle.loads.specs.declared.Progress.{Progress}
 use Rattle.loads.specs.declared.Stage.{Stage}
@@ -92,11 +93,16 @@ module _ (image : List ℕ) (m : Memory) (o : Options) (b : ℕ) where
 
 -- ---- "a step still ends within its budget": what any step keeps to, from any state and with any image
 
-stays-bounded : (m : Memory) (b : ℕ) (st : State) (r : Reply) → Bounded m b (stays st r)
+pub record PlanBounded (m : Memory) (budget : ℕ) (plan : Plan Stepped) : Type 0 where
+  pub inside : Inside m (plan .stream)
+  pub few : length (plan .stream) ≤ budget
+  pub reported : plan .answer .copied ≡ length (plan .stream)
+
+stays-bounded : (m : Memory) (b : ℕ) (st : State) (r : Reply) → PlanBounded m b (stays st r)
 stays-bounded m b st r = record { inside = none; few = omega arith; reported = refl }
 
 module _ (image : List ℕ) (m : Memory) where
-  goes-bounded : (st : State) (b : ℕ) → Bounded m b (nextPortion image m st b)
+  goes-bounded : (st : State) (b : ℕ) → PlanBounded m b (nextPortion image m st b)
   goes-bounded st b =
       let n = countOf image (st .options) - st .progress .at in
       let parts = partsFrom n image (testedPart image m (st .options)) (st .progress .at) in
@@ -109,21 +115,34 @@ module _ (image : List ℕ) (m : Memory) where
         reported = omega arith;
       }
 
-  stage-bounded : (stage : Stage) (st : State) (b : ℕ) → Bounded m b (byStage stage image m st b)
+  stage-bounded : (stage : Stage) (st : State) (b : ℕ) → PlanBounded m b (byStage stage image m st b)
   unfolding firstStep
   stage-bounded Fresh st b =
-      pick-with (Bounded m b) (isLoaded (answerOf image m (st .options))) (λ _. goes-bounded (startedState image m (st .options)) b)
+      pick-with (PlanBounded m b) (isLoaded (answerOf image m (st .options))) (λ _. goes-bounded (startedState image m (st .options)) b)
       (λ _. stays-bounded m b (startedState image m (st .options)) (reply.Answers (answerOf image m (st .options))))
   stage-bounded Copying st b = goes-bounded st b
   stage-bounded Done st b = stays-bounded m b st (reply.Answers (st .answer))
 
-  pub any-step : (st : State) (b : ℕ) → Bounded m b (stepPlan image m st b)
+  pub plan-bounded : (st : State) (b : ℕ) → PlanBounded m b (stepPlan image m st b)
   unfolding stepPlan
-  any-step st b = by (askedAll Open (stepTests (st .progress) (length image) m b))
+  plan-bounded st b = by (askedAll Open (stepTests (st .progress) (length image) m b))
     where
-      by : (g : Gate) → Bounded m b (ifOpen g st (byStage (st .progress .stage) image m st b))
+      by : (g : Gate) → PlanBounded m b (ifOpen g st (byStage (st .progress .stage) image m st b))
       by Open = stage-bounded (st .progress .stage) st b
       by (Shut r) = stays-bounded m b st (reply.Refused r)
+
+pub any-step : (image : List ℕ) (st : State) (b : ℕ) (map : Map) (before after : List ℕ) {r : Stepped} → StepSays image st b map before r after
+    → Bounded (memoryOf before map) b before r after
+any-step image st b map before after says =
+    let m = memoryOf before map in
+    let bounded = plan-bounded image m st b in
+    record {
+      stream = stepPlan image m st b .stream;
+      inside = bounded .inside;
+      few = bounded .few;
+      reported = ap (λ (x : Stepped). x .copied) (says .answer) ∙ bounded .reported;
+      memory = says .memory;
+    }
 
 -- ---- a step, as the code takes it
 

@@ -18,15 +18,15 @@ use Rattle.loads.specs.declared.Options.{Options}
 use Rattle.loads.specs.declared.formats.Layout.{Layout}
 
 unfoldable pub layoutBy : Format → List ℕ → Given → Layout
-layoutBy Elf image offset = record { «by_table» = true; table = e-phoff image; shift = amountOf offset; one = noPart }
-layoutBy BzImage image offset = record { «by_table» = false; table = 0; shift = 0; one = bzimage.partOf image offset }
-layoutBy Arm64 image offset = record { «by_table» = false; table = 0; shift = 0; one = arm64.partOf image (amountOf offset) }
+layoutBy Elf image offset = record { «by_table» = true; table = record { 0 = e-phoff image }; shift = record { 0 = amountOf offset }; one = noPart }
+layoutBy BzImage image offset = record { «by_table» = false; table = record { 0 = 0 }; shift = record { 0 = 0 }; one = bzimage.partOf image offset }
+layoutBy Arm64 image offset = record { «by_table» = false; table = record { 0 = 0 }; shift = record { 0 = 0 }; one = arm64.partOf image (amountOf offset) }
 
 abbrev pub layoutOf : List ℕ → Options → Layout
 layoutOf image o = layoutBy (o .format) image (o .«kernel_offset»)
 
 unfoldable pub partIn : List ℕ → Layout → ℕ → Part
-partIn image l i = pick (l .«by_table») (headerPart (l .shift) (headerAt image (l .table + 56 * i))) (l .one)
+partIn image l i = pick (l .«by_table») (headerPart (l .shift .0) (headerAt image (l .table .0 + 56 * i))) (l .one)
 
 -- of an ELF image the program headers lie in it
 pub data TableStands (image : List ℕ) : Format → Type 0 where

@@ -9,7 +9,7 @@ use Rattle.answers.specs.declared.Gate.the-variants.{Open, Shut}
 use Rattle.answers.specs.declared.Refusal.{Refusal}
 use Rattle.guest.specs.Loading.{Plan}
 use Rattle.guest.specs.Room.{memoryOf}
-use Rattle.guest.specs.Stream.{Inside, pour}
+use Rattle.guest.specs.Stream.{Poke, Inside, pour}
 use Rattle.guest.specs.declared.Answer.{Answer}
 use Rattle.guest.specs.declared.Map.{Map}
 use Rattle.guest.specs.declared.Memory.{Memory}
@@ -44,6 +44,8 @@ pub record NextStep (plan : Plan Answer) (t b : ℕ) (guest : List ℕ) (r : Ste
   pub reported : r .copied ≡ min b (length (plan .stream) - t)
   -- the answer comes in the first step at which the budgets given add up to all the bytes that the whole load writes, and is the whole load's
   pub reply : r .reply ≡ replyAfter (leb (length (plan .stream)) (t + b)) (plan .answer)
+  -- which the state keeps from its first step on
+  pub kept : r .state .answer ≡ plan .answer
 
 -- "load in portions", of a load by its plan: any calls from `from`, over one image and one memory, refused calls anywhere between, are the whole load
 -- stopped after as many bytes as the budgets add up to
@@ -59,8 +61,10 @@ pub record InPortions (image : List ℕ) (m : Memory) (from : State) (plan : Pla
       → memoryOf now map ≡ m → {r : Stepped} {after : List ℕ} → StepSays image st b map now r after
       → r .reply ≡ replyAfter (leb (answeringStep (length (plan .stream)) b) (suc k)) (plan .answer)
 
--- a step keeps to the ranges of memory and to its budget, and reports what it writes
-pub record Bounded (m : Memory) (budget : ℕ) (plan : Plan Stepped) : Type 0 where
-  pub inside : Inside m (plan .stream)
-  pub few : length (plan .stream) ≤ budget
-  pub reported : plan .answer .copied ≡ length (plan .stream)
+-- a call of `step` writes a stream of bytes that lies in the ranges of memory and is no longer than its budget, and reports its length
+pub record Bounded (m : Memory) (budget : ℕ) (before : List ℕ) (r : Stepped) (after : List ℕ) : Type 0 where
+  pub stream : List Poke
+  pub inside : Inside m stream
+  pub few : length stream ≤ budget
+  pub reported : r .copied ≡ length stream
+  pub memory : after ≡ pour stream before

@@ -13,6 +13,7 @@ use fields::numbers;
 use fields::tags;
 use guest::Answer;
 use guest::GuestAddress;
+use guest::ImagePlace;
 use guest::Memory;
 use guest::Part;
 use guest::addresses;
@@ -31,7 +32,7 @@ pub fn kind_of(image: &[u8]) -> Kind
     if tags::is_tag(image, 0, b"\x7fELF") {
         return Kind::Is(Format::Elf);
     }
-    if numbers::read_u32(image, setup_header::place(setup_header::HEADER)) == 0x5372_6448 {
+    if numbers::read_u32(image, setup_header::place(setup_header::HEADER).0) == 0x5372_6448 {
         return Kind::Is(Format::BzImage);
     }
     if numbers::read_u32(image, 56) == 0x644D_5241 {
@@ -92,8 +93,8 @@ pub fn part(image: &[u8], options: Options, i: u64) -> Part
 // What the parts of a load are read from: a table of program headers, or the one part.
 pub(crate) struct Layout {
     pub by_table: bool,
-    pub table: u64,
-    pub shift: u64,
+    pub table: ImagePlace,
+    pub shift: GuestAddress,
     pub one: Part,
 }
 
@@ -106,19 +107,19 @@ pub(crate) fn read_layout(image: &[u8], options: Options) -> Layout
         Format::Elf => Layout {
             by_table: true,
             table: elf::parts::table(image),
-            shift: addresses::amount(offset),
+            shift: GuestAddress(addresses::amount(offset)),
             one: parts::nothing(),
         },
         Format::BzImage => Layout {
             by_table: false,
-            table: 0,
-            shift: 0,
+            table: ImagePlace(0),
+            shift: GuestAddress(0),
             one: bzimage::parts::part(image, offset),
         },
         Format::Arm64 => Layout {
             by_table: false,
-            table: 0,
-            shift: 0,
+            table: ImagePlace(0),
+            shift: GuestAddress(0),
             one: arm64::parts::part(image, GuestAddress(addresses::amount(offset))),
         },
     }
@@ -126,12 +127,14 @@ pub(crate) fn read_layout(image: &[u8], options: Options) -> Layout
 
 // Part i of a load whose program headers lie in the image.
 pub(crate) fn part_in(image: &[u8], layout: Layout, i: u64) -> Part
-    requires { ⌜ (layout .«by_table» ≡ true → layout .table + 56 * i + 56 ≤ length (now image)) ⌝ }
+    requires { ⌜ (layout .«by_table» ≡ true → layout .table .0 + 56 * i + 56 ≤ length (now image)) ⌝ }
     ensures { λ r. ⌜ r ≡ partIn (now (image .entry)) layout i ⌝ }
 {
     if layout.by_table {
-        let at = (layout.table + 56 * i) as usize;
-        return elf::parts::of_header(&image[at..at + 56], layout.shift);
+        let table = layout.table.0;
+        let shift = layout.shift;
+        let at = (table + 56 * i) as usize;
+        return elf::parts::of_header(&image[at..at + 56], shift);
     }
     layout.one
 }

@@ -9,12 +9,12 @@ use Rattle.bzimage.proofs.header.header_with.Tie as tie
 
 sub-at : tie.Need-sub-at
 sub-at c =
-    let at-place = c .before .before .before .before .before .before in
-    omega (arith, c .place2 .ensures ∙ at-code32-start, at-place .place .ensures ∙ at-setup-sects)
+    let at-place = c .before .before .before .before .before .before .before in
+    omega (arith, c .before .place2 .ensures ∙ at-code32-start, at-place .place .ensures ∙ at-setup-sects)
 
 returns : tie.Need-returns
 returns c =
-    let at-place2 = c .before .before .before in
+    let at-place2 = c .before .before .before .before in
     let at-copy = at-place2 .before .before in
     let at-lesser = at-copy .before .before .before in
     let at-place = at-lesser .before in

@@ -17,8 +17,8 @@ returns-2 : tie.Need-returns-2
 unfolding headerPart pick
 returns-2 c = rw (eq-eqb (c .before .before .before .before .before .args .h .«p_type») 1 (c .before .before .before .if1 .left), failed (c .before .before .sum-fits .ensures) (c .before .if2 .taken), c .nothing2 .ensures)
 
-add-t7 : tie.Need-add-t7
-add-t7 c = omega (arith, within-sum _ _ _ (held (c .before .before .sum-fits .ensures) (c .before .if2 .left)))
+add-t8 : tie.Need-add-t8
+add-t8 c = omega (arith, within-sum _ _ _ (held (c .before .before .sum-fits .ensures) (c .before .if2 .left)))
 
 returns-3 : tie.Need-returns-3
 unfolding headerPart pick
@@ -33,5 +33,5 @@ part-of-spec =
     (λ c κs. search needs)
     (λ c κs. search needs)
     returns-2
-    add-t7
+    add-t8
     returns-3)

@@ -15,7 +15,7 @@ returns c =
       c .before .before .before .read-u64 .ensures .value,
       c .before .before .before .before .read-u32 .ensures .value,
     )
-    (header-own (c .before .before .before .before .before .before .before .args .image .now) (c .before .before .before .before .before .before .before .args .at))
+    (header-own (c .before .before .before .before .before .before .before .args .image .now) (c .before .before .before .before .before .before .before .args .at .0))
 
 pub read-at-spec : {M : Type 1} → statement M
 read-at-spec =

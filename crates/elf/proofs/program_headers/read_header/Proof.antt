@@ -7,7 +7,7 @@ use Rattle.elf.proofs.program_headers.read_header.Statement.{statement}
 use Rattle.elf.proofs.program_headers.read_header.Tie as tie
 
 returns : tie.Need-returns
-returns c = let args = c .before .before .args in c .read-at .ensures ∙ header-read (args .image .now) (args .e-phoff) (args .i) (c .before .before .pre .0)
+returns c = let args = c .before .before .args in c .read-at .ensures ∙ header-read (args .image .now) (args .e-phoff .0) (args .i) (c .before .before .pre .0)
 
 pub read-header-spec : {M : Type 1} → statement M
 read-header-spec = tie.close (tie.spec (λ c. search needs) (λ c. search needs) (λ c κs. search needs) returns)

@@ -4,13 +4,14 @@ use Prim.Native.Nat.{_-_, _≤_}
 use mathlib.Core.Path.{_≡_, _∙_}
 use native.Mathlib.Omega.{arith}
 use native.Mathlib.Nat.{sub-zero}
+use Rattle.guest.specs.Room.{room}
 use Rattle.elf.specs.Survey.{surveyFrom}
 use Rattle.elf.proofs.SurveyLaws.{survey-turn, survey-end}
 use Rattle.elf.proofs.survey.survey.Statement.{statement}
 use Rattle.elf.proofs.survey.survey.Tie as tie
 
 abbrev Inv-loop : tie.InvT-loop
-Inv-loop image memory offset phoff n result₀ i₀ result i = (i ≤ n) × (surveyFrom (n - i) image memory offset i result ≡ surveyFrom n image memory offset 0 result₀)
+Inv-loop image memory offset phoff n result₀ i₀ result i = (i ≤ n) × (surveyFrom (n - i) image (room memory) offset i result ≡ surveyFrom n image (room memory) offset 0 result₀)
 
 abbrev μ-loop : tie.MeasureT-loop
 μ-loop image memory offset phoff n result₀ i₀ result i = n - i
@@ -22,7 +23,7 @@ returns : tie.Need-returns Inv-loop μ-loop
 returns c =
     let args = c .before .before .before .before .before .before .before .before .args in
     let at-turn = c .before .before .before .before .before .before .loop in
-    survey-turn (args .image .now) (args .memory) (args .offset) (at-turn .i) (at-turn .result) (omega arith)
+    survey-turn (args .image .now) (room (args .memory)) (args .offset) (at-turn .i) (at-turn .result) (omega arith)
     (c .before .before .before .before .read-header .ensures) (c .before .before .before .examine .ensures) (c .before .step2 .given .1) (at-turn .inv .1)
 
 loop-again : tie.Need-loop-again Inv-loop μ-loop
@@ -31,7 +32,7 @@ loop-again c =
     let at-turn = c .before .before .before .before .before .before .before .loop in (
       omega arith,
       rw (c .advance .ensures)
-          (survey-turn (args .image .now) (args .memory) (args .offset) (at-turn .i) (at-turn .result) (omega arith)
+          (survey-turn (args .image .now) (room (args .memory)) (args .offset) (at-turn .i) (at-turn .result) (omega arith)
           (c .before .before .before .before .before .read-header .ensures) (c .before .before .before .before .examine .ensures) (c .before .before .step .given .1) (at-turn .inv .1)),
     )
 
@@ -39,7 +40,7 @@ returns-2 : tie.Need-returns-2 Inv-loop μ-loop
 returns-2 c =
     let args = c .before .before .before .args in
     let at-end = c .before .loop in
-    survey-end (args .image .now) (args .memory) (args .offset) (at-end .i) (at-end .result) (omega arith) ∙ at-end .inv .1
+    survey-end (args .image .now) (room (args .memory)) (args .offset) (at-end .i) (at-end .result) (omega arith) ∙ at-end .inv .1
 
 pub survey-spec : {M : Type 1} → statement M
 survey-spec =

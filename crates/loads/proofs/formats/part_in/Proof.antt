@@ -9,7 +9,7 @@ use Rattle.loads.proofs.formats.part_in.Statement.{statement}
 use Rattle.loads.proofs.formats.part_in.Tie as tie
 
 mul-at : tie.Need-mul-at
-mul-at c = let lies = c .before .before .pre (c .if1 .taken) in omega arith
+mul-at c = let lies = c .before .before .before .pre (c .before .if1 .taken) in omega arith
 
 add-at : tie.Need-add-at
 add-at c = let lies = c .before .before .before .pre (c .before .if1 .taken) in omega arith
@@ -25,7 +25,7 @@ unfolding partIn pick
 returns c =
     let args = c .before .before .before .before .before .args in
     let lies = c .before .before .before .before .before .pre (c .before .before .before .if1 .taken) in
-    rw (c .before .before .before .if1 .taken, c .of-header .ensures) (own-part (args .image .now) (args .layout .table + 56 * args .i) (args .layout .shift) (omega arith))
+    rw (c .before .before .before .if1 .taken, c .of-header .ensures) (own-part (args .image .now) (args .layout .table .0 + 56 * args .i) (args .layout .shift .0) (omega arith))
 
 returns-2 : tie.Need-returns-2
 unfolding partIn pick

@@ -11,7 +11,7 @@ use Rattle.loads.proofs.formats.read_layout.Statement.{statement}
 use Rattle.loads.proofs.formats.read_layout.Tie as tie
 
 abbrev one : Part → Layout
-one p = record { «by_table» = false; table = 0; shift = 0; one = p }
+one p = record { «by_table» = false; table = record { 0 = 0 }; shift = record { 0 = 0 }; one = p }
 
 returns : tie.Need-returns
 unfolding layoutBy
