@@ -1,6 +1,6 @@
--- The sentence "the checker accepts a block, whoever wrote it, exactly when block and both lists lie in guest memory, magic and version are right
--- and every reserved field, the rows' too, is 0": all tests hold exactly where the rule does; and a number is answered exactly where its test is the
--- first that fails.
+-- The sentence "the checker accepts a block, whoever wrote it, exactly when block and both lists lie in guest memory,
+-- magic and version are right and every reserved field, the rows' too, is 0": all tests hold exactly if the rule does;
+-- and a number is answered exactly if its test is the first that fails.
 use Prim.Native.Nat.{ℕ, _+_, _*_, _/_, _≤_, _<_}
 use mathlib.Core.Path.{_≡_, refl, sym, ap, _∙_}
 use mathlib.Core.Bool.{true}
@@ -11,7 +11,7 @@ use native.Mathlib.Decide.{decLe}
 use borrow.Author.Tests.{eq-eqb, eqb-true}
 use lib.ListN.{length, getD}
 use Rattle.answers.specs.Catalogue.{numberOf}
-use Rattle.answers.specs.Listing.{contains, rowListed}
+use Rattle.answers.specs.Listing.{contains, Listed, rowListed}
 use Rattle.answers.specs.Tests.{Test, AllHold, FirstFails}
 use Rattle.answers.specs.declared.Refusal.{Refusal}
 use Rattle.answers.specs.declared.Gate.{Gate}
@@ -139,23 +139,28 @@ module _ (map : Map) (guest : List ℕ) (block : ℕ) {r : Gate} (checks : r ≡
   pub where-refused : {refusal : Refusal} → r ≡ Shut refusal → FirstFails refusal row
   where-refused {refusal} e = shut-first row refusal (sym checks ∙ e)
 
-  -- the same by the catalogue
-  abbrev checkNumbers : List ℕ
+  -- no other number is answered
+  abbrev pub checkNumbers : List ℕ
   checkNumbers = 60 ∷ 76 ∷ 77 ∷ 78 ∷ 79 ∷ 80 ∷ []
 
+  pub check-listed : {refusal : Refusal} → r ≡ Shut refusal → Listed checkNumbers refusal
+  unfolding rowListed contains
+  check-listed e = first-listed checkNumbers row refl (where-refused e)
+
+  -- the same by the catalogue
   pub accepted-number : AllHold (memoryTests memory) → StartRight memory guest block → gateNumber r ≡ 0
   unfolding gateNumber
   accepted-number lent right = ap gateNumber (accepted-where lent right)
 
   -- who compares the number with 0 takes no other block
   pub zero-accepted : gateNumber r ≡ 0 → r ≡ Open
-  unfolding gateNumber rowListed contains
+  unfolding gateNumber contains
   zero-accepted = by-gate r refl
     where
       by-gate : (g : Gate) → r ≡ g → gateNumber g ≡ 0 → r ≡ Open
       by-gate Open e zero = e
       by-gate (Shut refusal) e zero =
-          let listed = first-listed checkNumbers row refl (where-refused e) in
+          let listed = check-listed e in
           let none = ap (contains checkNumbers) zero in
           absurd (let w : _≡_ {A = ℕ} 0 1 = cc in omega arith)
 

@@ -1,6 +1,7 @@
--- "More memory or a wider map keeps what was accepted": while the old map and the new are good ones, what was written is written alike in memory that
--- grows, the added bytes untouched, and only a 76 for room may change: one for overlap or for 2^32 rows stays. What the checker answers stays, too, of
--- an accepted block and of one that is not accepted though all of it lies in guest memory.
+-- "More memory or a wider map keeps what was accepted": while the old map and the new are good ones, what was written is
+-- written alike in memory that grows, the added bytes untouched, and only a 76 for room may change: one for overlap or
+-- for 2^32 rows stays. What the checker answers stays, too, of an accepted block and of one that is not accepted though
+-- all of it lies in guest memory.
 use Prim.Native.Nat.{ℕ, zero, suc, _+_, _*_, _≤_, _<_}
 use mathlib.Core.Path.{_≡_, sym, _∙_, refl, ap, ap₂, subst⁻¹}
 use mathlib.Core.Bool.{Bool, true, false}
@@ -39,6 +40,7 @@ use Rattle.start_info.specs.Checking.{rowsIn, rowsTests, checkTests, che
 use Rattle.start_info.specs.Rule.{PartsLie, StartLies, ForRoom, NotInMemory}
 use Rattle.start_info.proofs.PartsLaws.{lies-within, lies-grows}
 use Rattle.start_info.proofs.OnlyParts.{plan-inside}
+use Rattle.start_info.proofs.ExactRule.{where-accepted}
 
 clash : {b : Bool} → b ≡ true → b ≡ false → ⊥
 clash t f = let w : _≡_ {A = ℕ} 0 1 = cc in omega arith
@@ -185,13 +187,14 @@ module _ (map map' : Map) (guest more : List ℕ) (grown : Grows (memoryOf guest
         (λ _.
         list-widen rangeWidths refl (omega arith) (as-before 8 rangesAt (omega arith)) (as-before 4 rangeCountAt (omega arith)) (λ f all. clash (all .ranges-lie) f)))))))
 
-    module _ {r r' : Gate} (checks : r ≡ checkOf map guest block) (short : length (guest ++ more) ≤ longest) (good : goodMap (length guest) map ≡ true)
+    module _ {r r' : Gate} (checks : r ≡ checkOf map guest block) (short : length (guest ++ more) ≤ longest)
         (good' : goodMap (length (guest ++ more)) map' ≡ true) (checks' : r' ≡ checkOf map' (guest ++ more) block) where
       -- the answer stays, unless it is a 76
-      pub check-grows : (RefusedFor Shut May' r → ⊥) → r' ≡ r
-      check-grows stays-so =
+      pub check-grows : goodMap (length guest) map ≡ true → (RefusedFor Shut May' r → ⊥) → r' ≡ r
+      check-grows good stays-so =
           checks'
-          ∙ kept (ShutBy May') (row-keeps May' (check-widens (allowed-longer guest more short) (good' ∙ sym good))) (λ shut. stays-so (subst⁻¹ (RefusedFor Shut May') checks (for-that shut)))
+          ∙ kept (ShutBy May') (row-keeps May' (check-widens (allowed-longer guest more short) (good' ∙ sym good)))
+          (λ shut. stays-so (subst⁻¹ (RefusedFor Shut May') checks (for-that shut)))
           ∙ sym checks
         where
           for-that : {g : Gate} → ShutBy May' g → RefusedFor Shut May' g
@@ -199,7 +202,19 @@ module _ (map map' : Map) (guest more : List ℕ) (grown : Grows (memoryOf guest
 
       -- so an accepted block is accepted, and one of which all lies in guest memory has the same answer
       pub accepted-grows : r ≡ Open → r' ≡ Open
-      accepted-grows accepted = check-grows (λ for. let e = sym accepted ∙ for .is in absurd (let w : _≡_ {A = ℕ} 0 1 = cc in omega arith)) ∙ accepted
+      accepted-grows accepted =
+          let good = where-accepted map guest block checks accepted .0 .1 .0 in
+          check-grows good (λ for. let e = sym accepted ∙ for .is in absurd (let w : _≡_ {A = ℕ} 0 1 = cc in omega arith)) ∙ accepted
 
-      pub not-accepted-grows : StartLies old guest block → r' ≡ r
-      not-accepted-grows lie = check-grows (λ for. for .lifts .out lie)
+      pub not-accepted-grows : goodMap (length guest) map ≡ true → StartLies old guest block → r' ≡ r
+      not-accepted-grows good lie = check-grows good (λ for. for .lifts .out lie)
+
+-- the same of memory made larger in any of the ways
+module _ (map map' : Map) (guest more : List ℕ) (larger : Larger (memoryOf guest map) (memoryOf (guest ++ more) map')) (block : ℕ) {r r' : Gate}
+    (checks : r ≡ checkOf map guest block) (short : length (guest ++ more) ≤ longest) (good' : goodMap (length (guest ++ more)) map' ≡ true)
+    (checks' : r' ≡ checkOf map' (guest ++ more) block) where
+  pub accepted-larger : r ≡ Open → r' ≡ Open
+  accepted-larger = accepted-grows map map' guest more (larger-grows larger) block checks short good' checks'
+
+  pub check-larger : goodMap (length guest) map ≡ true → (RefusedFor Shut (NotInMemory (memoryOf guest map) guest block) r → ⊥) → r' ≡ r
+  check-larger = check-grows map map' guest more (larger-grows larger) block checks short good' checks'

@@ -1,4 +1,4 @@
--- What checking a block in guest memory answers, no matter who wrote it, and what reading its numbers answers and leaves.
+-- What checking a block answers, no matter who wrote it, and what reading its numbers answers and leaves.
 use Prim.Native.Nat.{ℕ, _+_, _*_}
 use mathlib.Core.Path.{_≡_}
 use mathlib.Core.List.{List, [], _∷_, _++_}

@@ -1,4 +1,5 @@
--- The rule by which a block is accepted, stated without an order; what a caller's numbers are by their types; and what is refused for room only.
+-- The rule by which a block is accepted, stated without an order; what a caller's numbers are by their types; and what
+-- is refused for room only.
 use Prim.Native.Nat.{ℕ, _+_, _*_, _^_, _<_}
 use mathlib.Core.Path.{_≡_}
 use mathlib.Core.Bool.{true}
@@ -55,7 +56,7 @@ pub record StartLies (m : Memory) (guest : List ℕ) (block : ℕ) : Type 0 wher
   pub modules-lie : lies m (le 8 guest (block + modulesAt)) (le 4 guest (block + moduleCountAt) * rowLength moduleWidths) ≡ true
   pub ranges-lie : lies m (le 8 guest (block + rangesAt)) (le 4 guest (block + rangeCountAt) * rowLength rangeWidths) ≡ true
 
--- 76 of a writer because a part does not lie in guest memory: not for 2^32 rows, nor for an overlap of parts that lie there
+-- 76 of a writer because a part does not lie in guest memory, not for 2^32 rows nor for an overlap
 pub record ForRoom (m : Memory) (start : Start) (modules ranges : List ℕ) (refusal : Refusal) : Type 0 where
   pub is : refusal ≡ BadPart
   pub few-modules : countOf modules < countEnd

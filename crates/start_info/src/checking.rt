@@ -28,7 +28,8 @@ fn field(guest: &[u8], block: GuestAddress, at: u64, width: u64) -> u64
     numbers::read_le(guest, place, width)
 }
 
-// A list of `fields` numbers in `size` bytes: it lies in guest memory, and its reserved numbers are 0. It is read only if no test refused.
+// A list of `fields` numbers in `size` bytes: it lies in guest memory, and its reserved numbers are 0. It is read only if
+// no test refused.
 fn ask_list(
     gate: Gate,
     guest: &[u8],

@@ -46,7 +46,8 @@ pub fn write(guest: &mut [u8], map: Map, start: Start, modules: &[u64], ranges: 
     }
 }
 
-// Checks the block at an address, no matter who wrote it: the gate is open if it is accepted, else shut by what is wrong first.
+// Checks the block at an address, no matter who wrote it: an open gate says that it is accepted, a shut one what is wrong
+// first.
 pub fn check(guest: &[u8], map: Map, block: GuestAddress) -> Gate
     ensures { λ r. ⌜ r ≡ checkOf map (now (guest .entry)) (block .0) ⌝ }
 {
@@ -57,7 +58,8 @@ pub fn check(guest: &[u8], map: Map, block: GuestAddress) -> Gate
     checking::ask(guest, memory, block)
 }
 
-// Reads the ten numbers of a block into a list of ten; a byte past the end is read as 0. A list of another length is refused and left as it was.
+// Reads the ten numbers of a block into a list of ten; a byte past the end is read as 0. A list of another length is
+// refused and left as it was.
 pub fn read_block(numbers: &mut [u64], guest: &[u8], block: GuestAddress) -> Gate
     ensures { λ r. ⌜ BlockReads (now (guest .entry)) (block .0) (now (numbers .entry)) r (now (numbers .exit)) ⌝ }
 {
