@@ -113,12 +113,14 @@ enum rekusoyen_answer {
     /* the PVH start block */
     REKUSOYEN_BAD_PART = 76,                       /* a part that is not in one range of guest memory, or overlaps
                                                     * another, or a list of 2^32 rows or more */
-    REKUSOYEN_BAD_START_MAGIC = 78,                /* the block's magic number is not 336EC578 hex */
-    REKUSOYEN_BAD_START_VERSION = 79,              /* the block's version is not 1 */
-    REKUSOYEN_BAD_START_RESERVED = 80,             /* a reserved field of the block or of a row is not 0 */
 
     /* guest memory */
     REKUSOYEN_BAD_MAP = 77,                        /* a map that is not valid: see the map of guest memory below */
+
+    /* a start block that is checked */
+    REKUSOYEN_BAD_START_MAGIC = 78,                /* the block's magic number is not 336EC578 hex */
+    REKUSOYEN_BAD_START_VERSION = 79,              /* the block's version is not 1 */
+    REKUSOYEN_BAD_START_RESERVED = 80,             /* a reserved field of the block or of a row is not 0 */
 
     /* arm64 */
     REKUSOYEN_SHORT_IMAGE = 81,                    /* an image of fewer than 64 bytes */

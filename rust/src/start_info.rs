@@ -99,8 +99,8 @@ pub(crate) fn write_numbers(
 /// version are right, and every reserved field, the rows' too, is 0. It is not checked whether parts overlap. Else what
 /// is wrong first is returned: [`SliceTooLong`](Refusal::SliceTooLong) and [`BadMap`](Refusal::BadMap); of the block
 /// [`BadPart`](Refusal::BadPart), [`BadStartMagic`](Refusal::BadStartMagic),
-/// [`BadStartVersion`](Refusal::BadStartVersion) and [`BadStartReserved`](Refusal::BadStartReserved); of the modules, then
-/// of the memory map `BadPart` and `BadStartReserved`.
+/// [`BadStartVersion`](Refusal::BadStartVersion) and [`BadStartReserved`](Refusal::BadStartReserved); of the modules,
+/// then of the memory map `BadPart` and `BadStartReserved`.
 pub fn check(guest: &[u8], map: &Map, block: GuestAddress) -> Result<Found, Refusal> {
     answered(call!(rekusoyen_start_check(in guest, in map.numbers(), block.0)))?;
     Ok(found(guest, block))
