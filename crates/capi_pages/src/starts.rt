@@ -12,7 +12,8 @@ use guest::GuestAddress;
 use guest::maps;
 use start_info::Start;
 
-fn number(gate: Gate) -> u32
+// The number of a gate, of a page's too: 0 if no test refused.
+pub(crate) fn number(gate: Gate) -> u32
     ensures { λ r. ⌜ r ≡ gateNumber gate ⌝ }
 {
     match gate {

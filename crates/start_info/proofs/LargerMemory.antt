@@ -19,7 +19,6 @@ use Rattle.answers.specs.declared.Gate.{Gate}
 use Rattle.answers.specs.declared.Gate.the-variants.{Open, Shut}
 use Rattle.answers.proofs.KeepingLaws.{kept, row-keeps, widens-append, widens-same}
 use Rattle.fields.specs.Numbers.{le}
-use Rattle.fields.specs.Ranges.{apart}
 use Rattle.fields.specs.Rows.{fieldWidth, rowsNumbers, rowsLength, rowLength}
 use Rattle.fields.proofs.NumbersLaws.{le-append}
 use Rattle.fields.proofs.WholeRows.{whole-rows}
@@ -45,11 +44,15 @@ use Rattle.start_info.proofs.ExactRule.{where-accepted}
 clash : {b : Bool} → b ≡ true → b ≡ false → ⊥
 clash t f = let w : _≡_ {A = ℕ} 0 1 = cc in omega arith
 
--- a test that comes to hold, whose refusal may change where it failed
-grows-where : {Lifts : Refusal → Type 0} {refusal : Refusal} {ts ts' : List Test} (b : Bool) {b' : Bool} → (b ≡ true → b' ≡ true) → (b ≡ false → Lifts refusal)
-    → (b ≡ true → Widens Lifts ts ts') → Widens Lifts ((b, refusal) ∷ ts) ((b', refusal) ∷ ts')
-grows-where true comes lifts rest = stays (comes refl) rest
-grows-where false comes lifts rest = grows (λ e. absurd (clash e refl)) (lifts refl) rest
+-- a part that comes to lie in guest memory, whose refusal may change if it did not
+part-grows : {May : Refusal → Type 0} {ts ts' : List Test} (m m' : Memory) → Grows m m' → (address n : ℕ) → (lies m address n ≡ false → May BadPart)
+    → (lies m address n ≡ true → Widens May ts ts') → Widens May ((lies m address n, BadPart) ∷ ts) ((lies m' address n, BadPart) ∷ ts')
+part-grows {May} {ts} {ts'} m m' more address n = by-test (lies m address n) (lies-grows m m' address n more)
+  where
+    by-test : (b : Bool) {b' : Bool} → (b ≡ true → b' ≡ true) → (b ≡ false → May BadPart) → (b ≡ true → Widens May ts ts')
+        → Widens May ((b, BadPart) ∷ ts) ((b', BadPart) ∷ ts')
+    by-test true comes may rest = stays (comes refl) rest
+    by-test false comes may rest = grows (λ e. absurd (clash e refl)) (may refl) rest
 
 -- ---- the writer
 
@@ -69,19 +72,11 @@ module _ (start : Start) (modules ranges : List ℕ) (m m' : Memory) (more : Gro
         few-ranges = ltb-true (countOf ranges) countEnd few';
         out = out;
       } in
-      grows-where (lies m (start .block .0) blockSize) (lies-grows m m' (start .block .0) blockSize more) (λ f. for-room (λ all. clash (all .block-lies) f))
+      part-grows m m' more (start .block .0) blockSize (λ f. for-room (λ all. clash (all .block-lies) f))
       (λ _.
-      grows-where (lies m (start .modules .0) (listSize moduleWidths modules)) (lies-grows m m' (start .modules .0) (listSize moduleWidths modules) more)
-      (λ f. for-room (λ all. clash (all .modules-lie) f))
+      part-grows m m' more (start .modules .0) (listSize moduleWidths modules) (λ f. for-room (λ all. clash (all .modules-lie) f))
       (λ _.
-      grows-where (lies m (start .ranges .0) (listSize rangeWidths ranges)) (lies-grows m m' (start .ranges .0) (listSize rangeWidths ranges) more)
-      (λ f. for-room (λ all. clash (all .ranges-lie) f))
-      (λ _.
-      widens-same May
-      ((apart (start .block .0) blockSize (start .modules .0) (listSize moduleWidths modules), BadPart)
-      ∷ (apart (start .block .0) blockSize (start .ranges .0) (listSize rangeWidths ranges), BadPart)
-      ∷ (apart (start .modules .0) (listSize moduleWidths modules) (start .ranges .0) (listSize rangeWidths ranges), BadPart)
-      ∷ []))))))
+      part-grows m m' more (start .ranges .0) (listSize rangeWidths ranges) (λ f. for-room (λ all. clash (all .ranges-lie) f)) (λ _. widens-same May _)))))
 
   rows-widen : allowed (m' .size) ≡ allowed (m .size) → goodMap (m' .size) (m' .map) ≡ goodMap (m .size) (m .map)
       → Widens May (tests m start modules ranges) (tests m' start modules ranges)
@@ -162,7 +157,7 @@ module _ (map map' : Map) (guest more : List ℕ) (grown : Grows (memoryOf guest
         → Widens May' (rowsTests widths old guest address count) (rowsTests widths new (guest ++ more) address' count')
     list-widen widths four some {address} {count = count} ea ec out =
         rw (ea, ec)
-        (grows-where (lies old address (count * rowLength widths)) (lies-grows old new address (count * rowLength widths) grown) (λ f. record { is = refl; out = out f })
+        (part-grows old new grown address (count * rowLength widths) (λ f. record { is = refl; out = out f })
         (λ there. stays (ap reservedAreZero (rows-same widths four some address count there)) (λ _. end)))
 
     check-widens : allowed (length (guest ++ more)) ≡ allowed (length guest) → goodMap (length (guest ++ more)) map' ≡ goodMap (length guest) map
@@ -171,7 +166,7 @@ module _ (map map' : Map) (guest more : List ℕ) (grown : Grows (memoryOf guest
     check-widens both maps =
         widens-append May' (memory-stays May' old new both maps)
         (λ _.
-        grows-where (lies old block blockSize) (lies-grows old new block blockSize grown) (λ f. record { is = refl; out = λ all. clash (all .block-lies) f })
+        part-grows old new grown block blockSize (λ f. record { is = refl; out = λ all. clash (all .block-lies) f })
         (λ there.
         let within = lies-within old block blockSize (omega arith) there in
         let as-before : (n at : ℕ) → at + n ≤ blockSize → le n (guest ++ more) (block + at) ≡ le n guest (block + at) = λ n at h.
