@@ -104,7 +104,7 @@ static uint32_t start_write(void)
 static uint32_t start_check(void)
 {
     static const uint64_t map[] = {0, sizeof page};
-    return rekusoyen_start_check(page, sizeof page, map, 2, 0, &number);
+    return rekusoyen_start_check(page, sizeof page, map, 2, 0);
 }
 
 static uint32_t start_block(void)

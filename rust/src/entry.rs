@@ -349,27 +349,25 @@ extern "C" {
         ranges_len: usize,
     ) -> u32;
 
-    /// Checks the start block at an address; `out` has one number, 1 if it is accepted and else 0.
-    pub fn rekusoyen_raw_start_check(
+    /// Checks the start block at an address: 0 if it is accepted, else the number of what is wrong first.
+    pub fn rekusoyen_start_check(
         guest: *const u8,
         guest_len: usize,
         map: *const u64,
         map_len: usize,
         block: u64,
-        out: *mut u64,
-        out_len: usize,
     ) -> u32;
 
-    /// Reads the ten numbers of a start block, as many as the list takes; a byte past the end of guest memory is read as 0.
+    /// Reads the ten numbers of a start block into a list of ten; a byte past the end of guest memory is read as 0.
     pub fn rekusoyen_raw_start_block(
         guest: *const u8,
         guest_len: usize,
         block: u64,
         numbers: *mut u64,
         numbers_len: usize,
-    );
+    ) -> u32;
 
-    /// Reads rows of modules in the same way, four numbers each.
+    /// Reads rows of modules, four numbers each, as many numbers as the list takes.
     pub fn rekusoyen_start_modules(
         guest: *const u8,
         guest_len: usize,
