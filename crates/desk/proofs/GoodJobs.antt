@@ -1,4 +1,5 @@
--- The tests of a job, which the code asks in its own order, hold exactly where the job is good, sentence by sentence (`GoodJob`).
+-- The tests of a job, which the code asks in its own order, hold exactly where the job is good, sentence by sentence (`GoodJob`); a good job
+-- prints what its bodies give (`good-prints`).
 use Prim.Native.Nat.{ℕ, _+_, _*_, _≤_}
 use mathlib.Core.Path.{_≡_, sym, _∙_, refl, ap, subst, subst⁻¹}
 use mathlib.Core.Bool.{Bool, true, false, _&&_, _||_}
@@ -11,8 +12,15 @@ use borrow.Author.Tests.{eqb-true, eq-eqb, ne-eqb, leb-true, le-leb}
 use Rattle.answers.specs.Pick.{pick}
 use Rattle.answers.specs.Tests.{AllHold}
 use Rattle.answers.proofs.BoolLaws.{both-held, hold-both, one-held, left-holds, right-holds}
-use Rattle.desk.specs.Table.{most, countOf, rowOf, firstRow, secondRow, countGood, isImage, kindsGood, onePlaced, twoPlaced, placesGood, jobTests}
+use Rattle.guest.specs.Loading.{Plan}
+use Rattle.guest.specs.Room.{wholeOf}
+use Rattle.guest.specs.declared.Answer.{Answer}
+use Rattle.guest.specs.declared.Answer.the-variants.{Refused}
+use Rattle.guest.proofs.LoadingLaws.{all-planned}
+use Rattle.desk.specs.Table.{imageRow, most, countOf, rowOf, firstRow, secondRow, countGood, isImage, kindsGood, onePlaced, twoPlaced, placesGood, jobTests}
 use Rattle.desk.specs.GoodJob.{rowsFrom, rowsOf, tableSize, isLine, isKind, countWith, Bodies, no-rest, no-gap, GoodJob}
+use Rattle.desk.specs.Work.{imageFormat, bodiesPlan, jobPlan}
+use Rattle.desk.specs.Printing.{answerText, printed}
 use Rattle.desk.specs.declared.table.Row.{Row}
 use Rattle.desk.proofs.TableLaws.{kinds-one, places-one, places-two}
 use Rattle.desk.proofs.Verdicts.{table-inside}
@@ -88,7 +96,7 @@ image-kind kind e = left-holds (isImage kind) (isLine kind) e
 body-end : {end at : ℕ} → Bodies end at [] → at ≡ end
 body-end no-rest = refl
 
-body-next : {end at : ℕ} {r : Row} {rs : List Row} → Bodies end at (r ∷ rs) → (r .place ≡ at) × Bodies end (at + r .size) rs
+body-next : {end at : ℕ} {r : Row} {rs : List Row} → Bodies end at (r ∷ rs) → (r .place .0 ≡ at) × Bodies end (at + r .size) rs
 body-next (no-gap p rest) = (p, rest)
 
 -- ---- the rows of a job
@@ -118,11 +126,11 @@ module _ (job : List ℕ) where
       is-image : isImage (first .kind) ≡ true
       is-image = sym (kinds-one (countOf job) (first .kind) (second .kind) e) ∙ hold .1 .1 .0
 
-      placed : (first .place ≡ 16) × (16 + first .size ≡ length job)
+      placed : (first .place .0 ≡ 16) × (16 + first .size ≡ length job)
       unfolding onePlaced
       placed =
-          let both = both-held (eqb (first .place) 16) (eqb (16 + first .size) (length job)) (sym (places-one first second (length job) (countOf job) e) ∙ hold .1 .1 .1 .0) in
-          (eqb-true (first .place) 16 (both .0), eqb-true (16 + first .size) (length job) (both .1))
+          let both = both-held (eqb (first .place .0) 16) (eqb (16 + first .size) (length job)) (sym (places-one first second (length job) (countOf job) e) ∙ hold .1 .1 .1 .0) in
+          (eqb-true (first .place .0) 16 (both .0), eqb-true (16 + first .size) (length job) (both .1))
 
       one-good : GoodJob job
       one-good =
@@ -145,13 +153,13 @@ module _ (job : List ℕ) where
           two-kinds (isImage (first .kind)) (isLine (first .kind)) (isImage (second .kind)) (isLine (second .kind)) (image-no-line (first .kind)) (image-no-line (second .kind))
           (sym (ap (λ t. pick t (isImage (first .kind)) (pick (isImage (first .kind)) (eqb (second .kind) 3) (pick (eqb (first .kind) 3) (isImage (second .kind)) false))) (ne-eqb (countOf job) 1 (not-one e))) ∙ hold .1 .1 .0)
 
-      both-placed : (first .place ≡ 28) × ((second .place ≡ 28 + first .size) × (28 + first .size + second .size ≡ length job))
+      both-placed : (first .place .0 ≡ 28) × ((second .place .0 ≡ 28 + first .size) × (28 + first .size + second .size ≡ length job))
       unfolding twoPlaced
       both-placed =
           let end = eqb (28 + first .size + second .size) (length job) in
-          let all = both-held (eqb (first .place) 28) (eqb (second .place) (28 + first .size) && end) (sym (places-two first second (length job) (countOf job) (not-one e)) ∙ hold .1 .1 .1 .0) in
-          let rest = both-held (eqb (second .place) (28 + first .size)) end (all .1) in
-          (eqb-true (first .place) 28 (all .0), (eqb-true (second .place) (28 + first .size) (rest .0), eqb-true (28 + first .size + second .size) (length job) (rest .1)))
+          let all = both-held (eqb (first .place .0) 28) (eqb (second .place .0) (28 + first .size) && end) (sym (places-two first second (length job) (countOf job) (not-one e)) ∙ hold .1 .1 .1 .0) in
+          let rest = both-held (eqb (second .place .0) (28 + first .size)) end (all .1) in
+          (eqb-true (first .place .0) 28 (all .0), (eqb-true (second .place .0) (28 + first .size) (rest .0), eqb-true (28 + first .size + second .size) (length job) (rest .1)))
 
       two-good : GoodJob job
       unfolding isKind
@@ -186,7 +194,7 @@ module _ (job : List ℕ) where
       one-place =
           let body = body-next (rows-bodies 1 e (rows-one e)) in
           places-one first second (length job) (countOf job) e
-          ∙ hold-both (eqb (first .place) 16) (eqb (16 + first .size) (length job)) (eq-eqb (first .place) 16 (body .0)) (eq-eqb (16 + first .size) (length job) (body-end (body .1)))
+          ∙ hold-both (eqb (first .place .0) 16) (eqb (16 + first .size) (length job)) (eq-eqb (first .place .0) 16 (body .0)) (eq-eqb (16 + first .size) (length job) (body-end (body .1)))
 
     module _ (e : countOf job ≡ 2) where
       two-counts : (test : ℕ → Bool) → countWith test (rowsOf job) ≡ one (test (first .kind)) + (one (test (second .kind)) + 0)
@@ -209,8 +217,8 @@ module _ (job : List ℕ) where
           let body = body-next (rows-bodies 2 e (rows-two e)) in
           let rest = body-next (body .1) in
           places-two first second (length job) (countOf job) (not-one e)
-          ∙ hold-both (eqb (first .place) 28) (eqb (second .place) (28 + first .size) && eqb (28 + first .size + second .size) (length job)) (eq-eqb (first .place) 28 (body .0))
-          (hold-both (eqb (second .place) (28 + first .size)) (eqb (28 + first .size + second .size) (length job)) (eq-eqb (second .place) (28 + first .size) (rest .0))
+          ∙ hold-both (eqb (first .place .0) 28) (eqb (second .place .0) (28 + first .size) && eqb (28 + first .size + second .size) (length job)) (eq-eqb (first .place .0) 28 (body .0))
+          (hold-both (eqb (second .place .0) (28 + first .size)) (eqb (28 + first .size + second .size) (length job)) (eq-eqb (second .place .0) (28 + first .size) (rest .0))
           (eq-eqb (28 + first .size + second .size) (length job) (body-end (rest .1))))
 
 pub tests-good : (job : List ℕ) → AllHold (jobTests job) → GoodJob job
@@ -226,3 +234,8 @@ good-tests job good =
     (λ e. (le-leb (length job) most (good .short), (left-holds (eqb (countOf job) 1) (eqb (countOf job) 2) (eq-eqb (countOf job) 1 e), (one-kind job good e, (one-place job good e, tt)))))
     (λ e. (le-leb (length job) most (good .short), (right-holds (eqb (countOf job) 1) (eqb (countOf job) 2) (eq-eqb (countOf job) 2 e), (two-kind job good e, (two-place job good e, tt)))))
     (good .rows)
+
+pub good-prints : (job : List ℕ) (size : ℕ) → GoodJob job → printed job size ≡ answerText (imageFormat (imageRow job .kind)) (bodiesPlan job (wholeOf size) .answer)
+unfolding jobPlan
+good-prints job size good =
+    ap (λ (p : Plan Answer). answerText (imageFormat (imageRow job .kind)) (p .answer)) (all-planned Refused (jobTests job) (bodiesPlan job (wholeOf size)) (good-tests job good))

@@ -18,8 +18,11 @@ use Rattle.guest.specs.declared.PvhBootCapability.{PvhBootCapability}
 use Rattle.guest.specs.declared.PvhBootCapability.the-variants.{PvhEntryPresent, PvhEntryNotPresent, PvhEntryIgnored}
 use Rattle.loads.specs.declared.Format.{Format}
 use Rattle.loads.specs.declared.Format.the-variants.{Elf, BzImage, Arm64}
-use Rattle.desk.specs.declared.Text.{Text}
-use Rattle.desk.specs.Printing.{loadWord, endWord, pvhWord, refusedWord, ignored, none, numberLine, pvhText, pvhLine, answerText, heldText}
+use Rattle.guest.specs.Room.{wholeOf}
+use Rattle.desk.specs.declared.Output.{Output}
+use Rattle.desk.specs.Table.{imageRow}
+use Rattle.desk.specs.Work.{guestSize, imageFormat, jobPlan}
+use Rattle.desk.specs.Printing.{loadWord, endWord, pvhWord, refusedWord, ignored, none, numberLine, pvhText, pvhLine, answerText, printed, outputOf}
 
 module _ {d left : List ℕ} {at r : ℕ} where
   pub pvh-ignored : {pvh : PvhBootCapability} → pvh ≡ PvhEntryIgnored → Stored d at (pvhWord ++ ignored) left r → Stored d at (pvhText pvh) left r
@@ -63,9 +66,18 @@ pub line-told : {d x y left : List ℕ} {at p q r : ℕ} (word : List ℕ) (n : 
     → Stored d at (numberLine word n) left r
 line-told word n a b c = then a (then b c)
 
+-- the text of a job, if its guest memory has the size that a job has
+pub job-output : (job : List ℕ) {size : ℕ} {f : Format} {answer : Answer} {r : Output} → size ≡ guestSize → f ≡ imageFormat (imageRow job .kind)
+    → answer ≡ jobPlan job (wholeOf size) .answer → r ≡ outputOf (answerText f answer) → r ≡ outputOf (printed job guestSize)
+job-output job {size} {f} {answer} {r} es ef ea er =
+    er
+    ∙ ap (λ (x : Format). outputOf (answerText x answer)) ef
+    ∙ ap (λ (a : Answer). outputOf (answerText (imageFormat (imageRow job .kind)) a)) ea
+    ∙ ap (λ (n : ℕ). outputOf (printed job n)) es
+
 -- what 80 zeros hold after a text was stored in them
 pub text-held : (f : Format) (answer : Answer) {bytes : List ℕ} {n : ℕ} → Stored (replicate 80 0) 0 (answerText f answer) bytes n
-    → _≡_ {A = Text} (record { bytes = bytes; length = n }) (heldText (answerText f answer))
+    → _≡_ {A = Output} (record { bytes = bytes; length = n }) (outputOf (answerText f answer))
 text-held f answer {bytes} {n} w =
     let long = length-replicate {A = ℕ} 80 0 in
     let place = w .place in

@@ -17,7 +17,7 @@ use Rattle.desk.specs.Table.{countOf, rowOf, RowRead, isImage, kindsGood
 
 -- three numbers read one after the other are a row
 pub row-read : (job : List ℕ) (at : ℕ) {k p s : ℕ} → ReadAs 4 job at k → ReadAs 4 job (at + 4) p → ReadAs 4 job (at + 8) s
-    → RowRead job at (record { kind = k; place = p; size = s })
+    → RowRead job at (record { kind = k; place = record { 0 = p }; size = s })
 unfolding rowOf
 row-read job at a b c = record { row = rw (a .value, b .value, c .value); small = c .small }
 
@@ -43,25 +43,25 @@ module _ (count a b : ℕ) where
 -- ---- places
 
 module _ (a b : Row) (len : ℕ) where
-  pub one-elsewhere : (a .place ≡ 16 → ⊥) → onePlaced a len ≡ false
+  pub one-elsewhere : (a .place .0 ≡ 16 → ⊥) → onePlaced a len ≡ false
   unfolding onePlaced
-  one-elsewhere z = rw (ne-eqb (a .place) 16 z)
+  one-elsewhere z = rw (ne-eqb (a .place .0) 16 z)
 
-  pub one-behind : a .place ≡ 16 → onePlaced a len ≡ eqb (16 + a .size) len
+  pub one-behind : a .place .0 ≡ 16 → onePlaced a len ≡ eqb (16 + a .size) len
   unfolding onePlaced
-  one-behind e = rw (eq-eqb (a .place) 16 e)
+  one-behind e = rw (eq-eqb (a .place .0) 16 e)
 
-  pub first-elsewhere : (a .place ≡ 28 → ⊥) → twoPlaced a b len ≡ false
+  pub first-elsewhere : (a .place .0 ≡ 28 → ⊥) → twoPlaced a b len ≡ false
   unfolding twoPlaced
-  first-elsewhere z = rw (ne-eqb (a .place) 28 z)
+  first-elsewhere z = rw (ne-eqb (a .place .0) 28 z)
 
-  pub second-elsewhere : a .place ≡ 28 → (b .place ≡ 28 + a .size → ⊥) → twoPlaced a b len ≡ false
+  pub second-elsewhere : a .place .0 ≡ 28 → (b .place .0 ≡ 28 + a .size → ⊥) → twoPlaced a b len ≡ false
   unfolding twoPlaced
-  second-elsewhere e z = rw (eq-eqb (a .place) 28 e, ne-eqb (b .place) (28 + a .size) z)
+  second-elsewhere e z = rw (eq-eqb (a .place .0) 28 e, ne-eqb (b .place .0) (28 + a .size) z)
 
-  pub both-behind : a .place ≡ 28 → b .place ≡ 28 + a .size → twoPlaced a b len ≡ eqb (28 + a .size + b .size) len
+  pub both-behind : a .place .0 ≡ 28 → b .place .0 ≡ 28 + a .size → twoPlaced a b len ≡ eqb (28 + a .size + b .size) len
   unfolding twoPlaced
-  both-behind e f = rw (eq-eqb (a .place) 28 e, eq-eqb (b .place) (28 + a .size) f)
+  both-behind e f = rw (eq-eqb (a .place .0) 28 e, eq-eqb (b .place .0) (28 + a .size) f)
 
   pub places-one : (count : ℕ) → count ≡ 1 → placesGood count a b len ≡ onePlaced a len
   unfolding placesGood pick

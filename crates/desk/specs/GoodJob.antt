@@ -42,7 +42,7 @@ countWith test (r ∷ rs) = pick (test (r .kind)) 1 0 + countWith test rs
 -- the bodies of rows, one right behind the other from a place on; the last ends with the job
 pub data Bodies (end : ℕ) : ℕ → List Row → Type 0 where
   no-rest : Bodies end end []
-  no-gap : {at : ℕ} {r : Row} {rs : List Row} → r .place ≡ at → Bodies end (at + r .size) rs → Bodies end at (r ∷ rs)
+  no-gap : {at : ℕ} {r : Row} {rs : List Row} → r .place .0 ≡ at → Bodies end (at + r .size) rs → Bodies end at (r ∷ rs)
 
 pub record GoodJob (job : List ℕ) : Type 0 where
   pub short : length job ≤ most

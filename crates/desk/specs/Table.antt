@@ -30,7 +30,7 @@ secondRow = 16
 
 -- the row at a place: the kind of a body, its place in the job, and its size
 unfoldable pub rowOf : List ℕ → ℕ → Row
-rowOf job at = record { kind = le 4 job at; place = le 4 job (at + 4); size = le 4 job (at + 8) }
+rowOf job at = record { kind = le 4 job at; place = record { 0 = le 4 job (at + 4) }; size = le 4 job (at + 8) }
 
 -- what a reader of a row answers
 pub record RowRead (job : List ℕ) (at : ℕ) (r : Row) : Type 0 where
@@ -53,11 +53,11 @@ kindsGood count a b = pick (eqb count 1) (isImage a) (pick (isImage a) (eqb b 3)
 
 -- the body of one row begins behind the table and ends with the job
 unfoldable pub onePlaced : Row → ℕ → Bool
-onePlaced a len = eqb (a .place) 16 && eqb (16 + a .size) len
+onePlaced a len = eqb (a .place .0) 16 && eqb (16 + a .size) len
 
 -- the bodies of two rows: the first begins behind the table, the second behind the first, and ends with the job
 unfoldable pub twoPlaced : Row → Row → ℕ → Bool
-twoPlaced a b len = eqb (a .place) 28 && (eqb (b .place) (28 + a .size) && eqb (28 + a .size + b .size) len)
+twoPlaced a b len = eqb (a .place .0) 28 && (eqb (b .place .0) (28 + a .size) && eqb (28 + a .size + b .size) len)
 
 unfoldable pub placesGood : ℕ → Row → Row → ℕ → Bool
 placesGood count a b len = pick (eqb count 1) (onePlaced a len) (twoPlaced a b len)
@@ -86,4 +86,4 @@ hasLine job = eqb (countOf job) 2
 
 -- the body of a row
 abbrev pub bodyOf : List ℕ → Row → List ℕ
-bodyOf job row = bytesAt job (row .place) (row .size)
+bodyOf job row = bytesAt job (row .place .0) (row .size)

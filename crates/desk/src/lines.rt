@@ -12,8 +12,8 @@ use guest::maps;
 const CAPACITY: usize = 4096;
 
 // Puts the line of a text at an address.
-fn put(guest: &mut [u8], at: u64, text: &[u8]) -> loader::Answer
-    ensures { λ r. ⌜ Loads (linePlan (now (text .entry)) (wholeOf (length (now (guest .entry)))) at) (now (guest .entry)) r (now (guest .exit)) ⌝ }
+fn put(guest: &mut [u8], at: GuestAddress, text: &[u8]) -> loader::Answer
+    ensures { λ r. ⌜ Loads (linePlan (now (text .entry)) (wholeOf (length (now (guest .entry)))) (at .0)) (now (guest .entry)) r (now (guest .exit)) ⌝ }
 {
     let reply = Cmdline::try_from(text, CAPACITY);
     let answer = reply.answer;
@@ -21,7 +21,7 @@ fn put(guest: &mut [u8], at: u64, text: &[u8]) -> loader::Answer
         cmdline::Answer::Refused(refusal) => loader::Answer::Refused(refusal),
         cmdline::Answer::Accepted => {
             let map = maps::whole(guest.len() as u64);
-            loader::load_cmdline(guest, map, GuestAddress(at), reply.line)
+            loader::load_cmdline(guest, map, at, reply.line)
         }
     }
 }
@@ -33,7 +33,7 @@ pub(crate) fn add(guest: &mut [u8], answer: Answer, text: &[u8]) -> Answer
     match answer {
         Answer::Refused(refusal) => Answer::Refused(refusal),
         Answer::Loaded(kernel) => {
-            let line = put(guest, kernel.kernel_end.0, text);
+            let line = put(guest, kernel.kernel_end, text);
             match line {
                 loader::Answer::Refused(refusal) => Answer::Refused(refusal),
                 loader::Answer::Loaded => Answer::Loaded(kernel),

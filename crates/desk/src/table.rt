@@ -13,6 +13,9 @@ use fields::numbers;
 // The most bytes that a job may have.
 const MOST: usize = 16384;
 
+// A place in the job, counted from its first byte.
+pub(crate) struct JobPlace(pub u64);
+
 // The places of the two rows.
 const FIRST: u64 = 4;
 
@@ -21,19 +24,19 @@ const SECOND: u64 = 16;
 // A row: the kind of a body, its place in the job and its size.
 pub(crate) struct Row {
     pub kind: u64,
-    pub place: u64,
+    pub place: JobPlace,
     pub size: u64,
 }
 
 // The row at a place.
-fn row_at(job: &[u8], at: u64) -> Row
-    requires { ⌜ at ≤ 16 ⌝ }
-    ensures { λ r. ⌜ RowRead (now (job .entry)) at r ⌝ }
+fn row_at(job: &[u8], at: JobPlace) -> Row
+    requires { ⌜ at .0 ≤ 16 ⌝ }
+    ensures { λ r. ⌜ RowRead (now (job .entry)) (at .0) r ⌝ }
 {
     Row {
-        kind: numbers::read_u32(job, at),
-        place: numbers::read_u32(job, at + 4),
-        size: numbers::read_u32(job, at + 8),
+        kind: numbers::read_u32(job, at.0),
+        place: JobPlace(numbers::read_u32(job, at.0 + 4)),
+        size: numbers::read_u32(job, at.0 + 8),
     }
 }
 
@@ -76,7 +79,7 @@ fn is_placed(a: Row, len: u64) -> bool
     requires { ⌜ a .size < 2 ^ 32 ⌝ }
     ensures { λ r. ⌜ r ≡ onePlaced a len ⌝ }
 {
-    if a.place != 16 {
+    if a.place.0 != 16 {
         return false;
     }
     16 + a.size == len
@@ -87,10 +90,10 @@ fn are_both_placed(a: Row, b: Row, len: u64) -> bool
     requires { ⌜ (a .size < 2 ^ 32) × (b .size < 2 ^ 32) ⌝ }
     ensures { λ r. ⌜ r ≡ twoPlaced a b len ⌝ }
 {
-    if a.place != 28 {
+    if a.place.0 != 28 {
         return false;
     }
-    if b.place != 28 + a.size {
+    if b.place.0 != 28 + a.size {
         return false;
     }
     28 + a.size + b.size == len
@@ -111,8 +114,8 @@ pub(crate) fn ask(job: &[u8]) -> Gate
     ensures { λ r. ⌜ r ≡ askedAll Open (jobTests (now (job .entry))) ⌝ }
 {
     let count = numbers::read_u32(job, 0);
-    let a = row_at(job, FIRST);
-    let b = row_at(job, SECOND);
+    let a = row_at(job, JobPlace(FIRST));
+    let b = row_at(job, JobPlace(SECOND));
     let gate = answers::require(Gate::Open, job.len() <= MOST, Refusal::BadJob);
     let gate = answers::require(gate, is_count(count), Refusal::BadJob);
     let gate = answers::require(gate, are_kinds(count, a.kind, b.kind), Refusal::BadJob);
@@ -127,20 +130,20 @@ pub(crate) fn ask(job: &[u8]) -> Gate
 pub(crate) fn image(job: &[u8]) -> Row
     ensures { λ r. ⌜ r ≡ imageRow (now (job .entry)) ⌝ }
 {
-    let a = row_at(job, FIRST);
+    let a = row_at(job, JobPlace(FIRST));
     if is_image(a.kind) {
         return a;
     }
-    row_at(job, SECOND)
+    row_at(job, JobPlace(SECOND))
 }
 
 // The row of the line, where there is one.
 pub(crate) fn line(job: &[u8]) -> Row
     ensures { λ r. ⌜ r ≡ lineRow (now (job .entry)) ⌝ }
 {
-    let a = row_at(job, FIRST);
+    let a = row_at(job, JobPlace(FIRST));
     if is_image(a.kind) {
-        return row_at(job, SECOND);
+        return row_at(job, JobPlace(SECOND));
     }
     a
 }
@@ -153,9 +156,9 @@ pub(crate) fn has_line(job: &[u8]) -> bool
 
 // The body of a row, as far as the job goes.
 pub(crate) fn body(job: &[u8], row: Row) -> &[u8]
-    ensures { λ r. ⌜ now r ≡ bytesAt (now (job .entry)) (row .place) (row .size) ⌝ }
+    ensures { λ r. ⌜ now r ≡ bytesAt (now (job .entry)) (row .place .0) (row .size) ⌝ }
 {
-    let from = copying::lesser(row.place as usize, job.len());
+    let from = copying::lesser(row.place.0 as usize, job.len());
     let to = from + copying::lesser(row.size as usize, job.len() - from);
     &job[from..to]
 }

@@ -5,7 +5,7 @@ use Rattle.desk.proofs.table.body.Statement.{statement}
 use Rattle.desk.proofs.table.body.Tie as tie
 
 returns : tie.Need-returns
-returns c = body-part (c .before .before .before .before .args .job .now) (c .before .before .before .before .args .row .place) (c .before .before .before .before .args .row .size) (c .before .before .lesser .ensures) (c .before .lesser2 .ensures)
+returns c = body-part (c .before .before .before .before .args .job .now) (c .before .before .before .before .args .row .place .0) (c .before .before .before .before .args .row .size) (c .before .before .lesser .ensures) (c .before .lesser2 .ensures)
 
 pub body-spec : {M : Type 1} → statement M
 body-spec =

@@ -5,7 +5,7 @@ use Rattle.desk.proofs.table.row_at.Statement.{statement}
 use Rattle.desk.proofs.table.row_at.Tie as tie
 
 returns : tie.Need-returns
-returns c = row-read (c .before .before .before .before .args .job .now) (c .before .before .before .before .args .at) (c .before .before .read-u32 .ensures) (c .before .read-u322 .ensures) (c .read-u323 .ensures)
+returns c = row-read (c .before .before .before .before .before .before .args .job .now) (c .before .before .before .before .before .before .args .at .0) (c .before .before .before .before .read-u32 .ensures) (c .before .before .read-u322 .ensures) (c .read-u323 .ensures)
 
 pub row-at-spec : {M : Type 1} → statement M
 row-at-spec =
