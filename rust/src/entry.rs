@@ -87,7 +87,7 @@ pub const START_BLOCK_NUMBERS: usize = 10;
 /// How many numbers a row of either of its lists has.
 pub const START_ROW_NUMBERS: usize = 4;
 
-extern "C" {
+crate::assembly::entry_points! {
     /// The format of an image by its magic number: [`ELF`], [`BZIMAGE`], [`ARM64`] or [`UNKNOWN`].
     pub fn rekusoyen_kind(image: *const u8, image_len: usize) -> u32;
 
