@@ -61,6 +61,11 @@ fn jobs() -> Vec<(&'static str, Vec<u8>)> {
         image.1.resize(length - 16, 0);
         job(&[image])
     };
+    let elf_at = |address: u32| {
+        let (kind, image) = elf();
+        (kind, with(image, 88, address))
+    };
+    let line_at_end = |length: usize| job(&[elf_at(16_000), line(&vec![b'a'; length])]);
     let mut rest = both();
     rest.push(0);
     vec![
@@ -82,6 +87,10 @@ fn jobs() -> Vec<(&'static str, Vec<u8>)> {
         ("a line of the capacity", job(&[elf(), line(&[b'a'; 4095])])),
         ("a line too long", job(&[elf(), line(&[b'a'; 4096])])),
         ("init arguments alone", job(&[elf(), line(b" -- a")])),
+        ("a segment that ends at 16,384", job(&[elf_at(16_381)])),
+        ("a segment that ends at 16,385", job(&[elf_at(16_382)])),
+        ("a line whose zero is at 16,383", line_at_end(375)),
+        ("a line whose zero is at 16,384", line_at_end(376)),
         ("a job of 16,384 bytes", long(16_384)),
         ("a job of 16,385 bytes", long(16_385)),
         ("a job of 20,000 bytes", long(20_000)),
@@ -179,6 +188,16 @@ mod tests {
         assert_eq!(text("a line too long"), "refused 41\n");
         assert_eq!(text("init arguments alone"), "refused 31\n");
         assert_eq!(
+            text("a segment that ends at 16,384"),
+            "load 16\nend 16389\npvh ignored\n"
+        );
+        assert_eq!(text("a segment that ends at 16,385"), "refused 10\n");
+        assert_eq!(
+            text("a line whose zero is at 16,383"),
+            "load 16\nend 16008\npvh ignored\n"
+        );
+        assert_eq!(text("a line whose zero is at 16,384"), "refused 32\n");
+        assert_eq!(
             text("a job of 16,384 bytes"),
             "load 16\nend 24\npvh ignored\n"
         );
@@ -188,7 +207,7 @@ mod tests {
             "a line of the capacity",
             "an image that is none",
         ];
-        let broken = jobs().into_iter().skip(16).map(|job| job.0);
+        let broken = jobs().into_iter().skip(20).map(|job| job.0);
         for what in broken.filter(|what| !good.contains(what)) {
             assert_eq!(text(what), "refused 70\n", "{what}");
         }

@@ -21,7 +21,7 @@ fn a_program_that_prints_nothing_differs_on_every_job() {
     let said = String::from_utf8(output.stdout).unwrap();
     assert_eq!(output.status.code(), Some(1));
     assert!(
-        said.contains("desk program: 41 jobs, 41 differ\n"),
+        said.contains("desk program: 45 jobs, 45 differ\n"),
         "{said}"
     );
     assert!(said.contains("  desk: job \"\"\n"), "{said}");

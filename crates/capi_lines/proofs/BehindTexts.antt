@@ -100,8 +100,8 @@ module _ (a b : List ℕ) {r q : ℕ} {left last : List ℕ} (s : Lines.SameLine
 
 -- ---- writing, comparing, loading
 
-write-gate : (a b count : List ℕ) (room : ℕ) → Lines.SameLine a b → Lines.writeGate a count room ≡ Lines.writeGate b count room
-unfolding Lines.writeGate
+write-gate : (a b count : List ℕ) (room : ℕ) → Lines.SameLine a b → Lines.lineWriteGate a count room ≡ Lines.lineWriteGate b count room
+unfolding Lines.lineWriteGate
 write-gate a b count room s =
     ap (λ (ts : List Test). askedAll Open (((eqb (length count) 1, NoRoom) ∷ ts) ++ writing.writeTests (Lines.textIn a) room)) (same-tests a b s)
     ∙ ap (λ (t : Text). askedAll Open (((eqb (length count) 1, NoRoom) ∷ Lines.lineTests b) ++ writing.writeTests t room)) (s .text)
@@ -121,12 +121,12 @@ write-behind a b out count s w =
       told = w .told ∙ by-both (λ g t. sets count 0 (writing.writtenCount (writing.writtenOf g t)));
     }
   where
-    gate : Lines.writeGate a count (length out) ≡ Lines.writeGate b count (length out)
+    gate : Lines.lineWriteGate a count (length out) ≡ Lines.lineWriteGate b count (length out)
     gate = write-gate a b count (length out) s
 
     by-both : {A : Type 0} (f : Gate → Text → A)
-        → f (Lines.writeGate a count (length out)) (Lines.textIn a) ≡ f (Lines.writeGate b count (length out)) (Lines.textIn b)
-    by-both f = ap (λ (g : Gate). f g (Lines.textIn a)) gate ∙ ap (f (Lines.writeGate b count (length out))) (s .text)
+        → f (Lines.lineWriteGate a count (length out)) (Lines.textIn a) ≡ f (Lines.lineWriteGate b count (length out)) (Lines.textIn b)
+    by-both f = ap (λ (g : Gate). f g (Lines.textIn a)) gate ∙ ap (f (Lines.lineWriteGate b count (length out))) (s .text)
 
 pub equal-behind : (a b c d : List ℕ) (out : List ℕ) {r : ℕ} {left : List ℕ} → Lines.SameLine a b → Lines.SameLine c d → Lines.LinesCompare a c out r left
     → Lines.LinesCompare b d out r left

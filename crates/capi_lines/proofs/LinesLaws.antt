@@ -38,6 +38,7 @@ use Rattle.cmdline.specs.Device.{addDevice}
 use Rattle.cmdline.specs.Making.{new, sizeTests, tryFrom}
 use Rattle.cmdline.specs.InPlace.{Append, strAppend, pairAppend, listAppend, deviceAppend, initAppend, AppendsBy, Appends}
 use Rattle.cmdline.specs.Writing as writing
+use Rattle.cmdline.proofs.InPlaceLaws.{appends-full}
 use Rattle.cmdline.proofs.TextLaws.{size-boot, size-init, init-asked, joined-long}
 use Rattle.cmdline.proofs.MakingLaws.{allowed-most}
 use Rattle.cmdline.proofs.WritingLaws.{writes-any}
@@ -132,11 +133,26 @@ module _ (number place : ℕ) (bytes : List ℕ) (n : ℕ) (within : n ≤ limit
       ∙ sym (sets-own-from place n bytes (spaceAfter n ++ s) there)
       ∙ ap (λ (k : ℕ). sets bytes place (text ++ (spaceAfter k ++ s))) (sym text-long)
 
-  appended-left : (ts : List Test) (s : List ℕ) {said : Appended} {d left : List ℕ} {r : ℕ} → (AllHold ts → length (joined text s) ≤ limit)
-      → AppendsBy (askedAll Open ts) (midOf place limit bytes) n s said d → Lines.Told said number (putMid place limit bytes d) r left
-      → Lines.LineLeft (askedAll Open ts) bytes (Lines.withText number place bytes (joined text s)) r left
-  appended-left ts s {said} {d} {left} {r} top w told = split (askedAll Open ts) refl w
+  appended-left : (g : Append) {said : Appended} {d left : List ℕ} {r : ℕ} → (AllHold (g .tests) → length (joined text (g .slug)) ≤ limit)
+      → Appends g (midOf place limit bytes) n said d → Lines.StoresLength said number (putMid place limit bytes d) r left
+      → Lines.LineLeft (askedAll Open (g .tests)) bytes (Lines.withText number place bytes (joined text (g .slug))) r left
+  appended-left g {said} {d} {left} {r} top w told = split (askedAll Open ts) refl (appends-full g whole w)
     where
+      ts : List Test
+      ts = g .tests
+
+      s : List ℕ
+      s = g .slug
+
+      whole : AllHold ts → n + length (spaceAfter n ++ s) ≤ length (midOf place limit bytes)
+      whole hold =
+          let high = top hold in
+          let gap = ap (λ (k : ℕ). length (spaceAfter k ++ s)) text-long in
+          let all = length-append text (spaceAfter (length text) ++ s) in
+          let own = text-long in
+          let full = part-long in
+          omega arith
+
       split : (g : Gate) → askedAll Open ts ≡ g → AppendsBy g (midOf place limit bytes) n s said d
           → Lines.LineLeft g bytes (Lines.withText number place bytes (joined text s)) r left
       split Open e v =
@@ -146,15 +162,15 @@ module _ (number place : ℕ) (bytes : List ℕ) (n : ℕ) (within : n ≤ limit
           let own = text-long in
           let full = part-long in
           let end : min (n + length (spaceAfter n ++ s)) (length (midOf place limit bytes)) ≡ length (joined text s) = omega arith in
-          let tells : Lines.Told (appended.Length (length (joined text s))) number (putMid place limit bytes d) r left =
-          subst (λ (x : Appended). Lines.Told x number (putMid place limit bytes d) r left) (v .answer ∙ ap appended.Length end) told in
+          let tells : Lines.StoresLength (appended.Length (length (joined text s))) number (putMid place limit bytes d) r left =
+          subst (λ (x : Appended). Lines.StoresLength x number (putMid place limit bytes d) r left) (v .answer ∙ ap appended.Length end) told in
           record {
             answer = tells .answer;
             line = tells .line ∙ ap (λ (l : List ℕ). sets l number (leBytes 8 (length (joined text s)))) (put-part s d high (v .bytes));
           }
       split (Shut x) e v =
-          let tells : Lines.Told (appended.Refused x) number (putMid place limit bytes d) r left =
-          subst (λ (y : Appended). Lines.Told y number (putMid place limit bytes d) r left) (v .answer) told in
+          let tells : Lines.StoresLength (appended.Refused x) number (putMid place limit bytes d) r left =
+          subst (λ (y : Appended). Lines.StoresLength y number (putMid place limit bytes d) r left) (v .answer) told in
           record {
             answer = tells .answer;
             line = tells .line ∙ ap (λ (l : List ℕ). putMid place limit bytes l) (v .bytes) ∙ part-same place limit bytes;
@@ -212,15 +228,15 @@ module _ (bytes : List ℕ) {header : Header} (reads : header ≡ Lines.headerBy
 
     appended-boot : (g : Append) {said : Appended} {d left : List ℕ} {r : ℕ} → (AllHold (g .tests) → bootRoom (Lines.textIn bytes) (length (g .slug)) ≡ true)
         → Appends g (midOf Lines.bootPlace limit bytes) (length (Lines.textIn bytes .boot)) said d
-        → Lines.Told said 0 (putMid Lines.bootPlace limit bytes d) r left
+        → Lines.StoresLength said 0 (putMid Lines.bootPlace limit bytes d) r left
         → Lines.LineLeft (askedAll Open (Lines.lineTests bytes ++ g .tests)) bytes
         (Lines.withText 0 Lines.bootPlace bytes (joined (Lines.textIn bytes .boot) (g .slug))) r left
     appended-boot g {said} {d} {left} {r} room w told =
         let size = header-sized .size in
         let low = header-sized .boots in
         behind-line (g .tests)
-        (appended-left 0 Lines.bootPlace bytes (le 8 bytes 0) (omega arith) (omega arith) (g .tests) (g .slug) top
-        (subst (λ (k : ℕ). AppendsBy (askedAll Open (g .tests)) (midOf Lines.bootPlace limit bytes) k (g .slug) said d) (boot-long bytes header-sized) w) told)
+        (appended-left 0 Lines.bootPlace bytes (le 8 bytes 0) (omega arith) (omega arith) g top
+        (subst (λ (k : ℕ). Appends g (midOf Lines.bootPlace limit bytes) k said d) (boot-long bytes header-sized) w) told)
       where
         top : AllHold (g .tests) → length (joined (Lines.textIn bytes .boot) (g .slug)) ≤ limit
         top hold =
@@ -234,15 +250,15 @@ module _ (bytes : List ℕ) {header : Header} (reads : header ≡ Lines.headerBy
 
     appended-init : (g : Append) {said : Appended} {d left : List ℕ} {r : ℕ} → (AllHold (g .tests) → initRoom (Lines.textIn bytes) (length (g .slug)) ≡ true)
         → Appends g (midOf Lines.initPlace limit bytes) (length (Lines.textIn bytes .init)) said d
-        → Lines.Told said 8 (putMid Lines.initPlace limit bytes d) r left
+        → Lines.StoresLength said 8 (putMid Lines.initPlace limit bytes d) r left
         → Lines.LineLeft (askedAll Open (Lines.lineTests bytes ++ g .tests)) bytes
         (Lines.withText 8 Lines.initPlace bytes (joined (Lines.textIn bytes .init) (g .slug))) r left
     appended-init g {said} {d} {left} {r} room w told =
         let size = header-sized .size in
         let low = header-sized .inits in
         behind-line (g .tests)
-        (appended-left 8 Lines.initPlace bytes (le 8 bytes 8) (omega arith) (omega arith) (g .tests) (g .slug) top
-        (subst (λ (k : ℕ). AppendsBy (askedAll Open (g .tests)) (midOf Lines.initPlace limit bytes) k (g .slug) said d) (init-long bytes header-sized) w) told)
+        (appended-left 8 Lines.initPlace bytes (le 8 bytes 8) (omega arith) (omega arith) g top
+        (subst (λ (k : ℕ). Appends g (midOf Lines.initPlace limit bytes) k said d) (init-long bytes header-sized) w) told)
       where
         top : AllHold (g .tests) → length (joined (Lines.textIn bytes .init) (g .slug)) ≤ limit
         top hold =
@@ -259,7 +275,7 @@ module _ (bytes : List ℕ) {header : Header} (reads : header ≡ Lines.headerBy
       pub pair-called : (key value : List ℕ)
           → Appends (pairAppend (min (header .boots) limit) (min (header .inits) limit) (min (header .capacity) limit) key value)
           (midOf Lines.bootPlace limit bytes) (min (header .boots) limit) said d
-          → Lines.Told said 0 (putMid Lines.bootPlace limit bytes d) r left → Lines.LineCalls Lines.the-boot bytes (insert (Lines.textIn bytes) key value) r left
+          → Lines.StoresLength said 0 (putMid Lines.bootPlace limit bytes d) r left → Lines.LineCalls Lines.the-boot bytes (insert (Lines.textIn bytes) key value) r left
       unfolding insert insertStr strAppend pairAppend
       pair-called key value w told =
           appended-boot (pairAppend (length (Lines.textIn bytes .boot)) (length (Lines.textIn bytes .init)) (le 8 bytes 16) key value)
@@ -269,7 +285,7 @@ module _ (bytes : List ℕ) {header : Header} (reads : header ≡ Lines.headerBy
       pub list-called : (key values ends : List ℕ)
           → Appends (listAppend (min (header .boots) limit) (min (header .inits) limit) (min (header .capacity) limit) key values ends)
           (midOf Lines.bootPlace limit bytes) (min (header .boots) limit) said d
-          → Lines.Told said 0 (putMid Lines.bootPlace limit bytes d) r left
+          → Lines.StoresLength said 0 (putMid Lines.bootPlace limit bytes d) r left
           → Lines.LineCalls Lines.the-boot bytes (insertMultiple (Lines.textIn bytes) key values ends) r left
       unfolding insertMultiple insertStr strAppend listAppend
       list-called key values ends w told =
@@ -280,14 +296,14 @@ module _ (bytes : List ℕ) {header : Header} (reads : header ≡ Lines.headerBy
       pub str-called : (slug : List ℕ)
           → Appends (strAppend (min (header .boots) limit) (min (header .inits) limit) (min (header .capacity) limit) slug)
           (midOf Lines.bootPlace limit bytes) (min (header .boots) limit) said d
-          → Lines.Told said 0 (putMid Lines.bootPlace limit bytes d) r left → Lines.LineCalls Lines.the-boot bytes (insertStr (Lines.textIn bytes) slug) r left
+          → Lines.StoresLength said 0 (putMid Lines.bootPlace limit bytes d) r left → Lines.LineCalls Lines.the-boot bytes (insertStr (Lines.textIn bytes) slug) r left
       unfolding insertStr strAppend
       str-called slug w told = appended-boot (strAppend (length (Lines.textIn bytes .boot)) (length (Lines.textIn bytes .init)) (le 8 bytes 16) slug) (λ hold. hold .1 .0) (rw (boots-as, inits-as, capacity-as) at w) told
 
       pub device-called : (size base irq : ℕ) (id id' : DeviceId) → id' ≡ id
           → Appends (deviceAppend (min (header .boots) limit) (min (header .inits) limit) (min (header .capacity) limit) size base irq id')
           (midOf Lines.bootPlace limit bytes) (min (header .boots) limit) said d
-          → Lines.Told said 0 (putMid Lines.bootPlace limit bytes d) r left
+          → Lines.StoresLength said 0 (putMid Lines.bootPlace limit bytes d) r left
           → Lines.LineCalls Lines.the-boot bytes (addDevice (Lines.textIn bytes) size base irq id) r left
       unfolding addDevice insertStr strAppend deviceAppend
       device-called size base irq id id' e w told =
@@ -296,7 +312,7 @@ module _ (bytes : List ℕ) {header : Header} (reads : header ≡ Lines.headerBy
       pub init-called : (slug : List ℕ)
           → Appends (initAppend (min (header .boots) limit) (min (header .inits) limit) (min (header .capacity) limit) slug)
           (midOf Lines.initPlace limit bytes) (min (header .inits) limit) said d
-          → Lines.Told said 8 (putMid Lines.initPlace limit bytes d) r left → Lines.LineCalls Lines.the-init bytes (insertInitArgs (Lines.textIn bytes) slug) r left
+          → Lines.StoresLength said 8 (putMid Lines.initPlace limit bytes d) r left → Lines.LineCalls Lines.the-init bytes (insertInitArgs (Lines.textIn bytes) slug) r left
       unfolding insertInitArgs initAppend
       init-called slug w told = appended-init (initAppend (length (Lines.textIn bytes .boot)) (length (Lines.textIn bytes .init)) (le 8 bytes 16) slug) (λ hold. hold .1 .0) (rw (boots-as, inits-as, capacity-as) at w) told
 
@@ -367,10 +383,10 @@ module _ (bytes out count : List ℕ) {g : Gate} {header : Header} (asks : g ≡
   write-one e = eqb-true (length count) 1 (open-all front (sym front-gate ∙ e) .0)
 
   pub write-refused : {refusal : Refusal} {r : ℕ} → header .gate ≡ Shut refusal → r ≡ numberOf refusal → Lines.LineWrites bytes out count r out count
-  unfolding Lines.writeGate writing.writtenCount
+  unfolding Lines.lineWriteGate writing.writtenCount
   write-refused {refusal} {r} e er =
       let t = Lines.textIn bytes in
-      let gate : Shut refusal ≡ Lines.writeGate bytes count (length out) =
+      let gate : Shut refusal ≡ Lines.lineWriteGate bytes count (length out) =
       sym
       (asked-append Open front (writing.writeTests t (length out))
       ∙ ap (λ (x : Gate). askedAll x (writing.writeTests t (length out))) (sym front-gate ∙ e)
@@ -384,10 +400,10 @@ module _ (bytes out count : List ℕ) {g : Gate} {header : Header} (asks : g ≡
   pub write-told : {w : Written} {r : ℕ} {boot init out-left count-left : List ℕ} → header .gate ≡ Open → boot ≡ take (header .boots) (drop Lines.bootPlace bytes)
       → init ≡ take (header .inits) (drop Lines.initPlace bytes) → writing.Writes (writing.bare boot init) out w out-left
       → Tells (writing.writtenNumber w) (writing.writtenCount w) count r count-left → Lines.LineWrites bytes out count r out-left count-left
-  unfolding Lines.writeGate Lines.headerBy
+  unfolding Lines.lineWriteGate Lines.headerBy
   write-told {w} {r} {boot} {init} {out-left} e eb ei wrote tells =
       let t = Lines.textIn bytes in
-      let gate : writing.writeGate t (length out) ≡ Lines.writeGate bytes count (length out) =
+      let gate : writing.writeGate t (length out) ≡ Lines.lineWriteGate bytes count (length out) =
       sym
       (asked-append Open front (writing.writeTests t (length out))
       ∙ ap (λ (x : Gate). askedAll x (writing.writeTests t (length out))) (sym front-gate ∙ e)) in
@@ -397,7 +413,7 @@ module _ (bytes out count : List ℕ) {g : Gate} {header : Header} (asks : g ≡
       writes-any t
       (subst (λ (x : List ℕ). writing.Writes (writing.bare (t .boot) x) out w out-left) same-init
       (subst (λ (x : List ℕ). writing.Writes (writing.bare x init) out w out-left) same-boot wrote)) in
-      let is : w ≡ writing.writtenOf (Lines.writeGate bytes count (length out)) t = own .answer ∙ ap (λ (x : Gate). writing.writtenOf x t) gate in
+      let is : w ≡ writing.writtenOf (Lines.lineWriteGate bytes count (length out)) t = own .answer ∙ ap (λ (x : Gate). writing.writtenOf x t) gate in
       record {
         answer = tells .answer ∙ ap writing.writtenNumber is;
         text = own .bytes ∙ ap (λ (x : Gate). sets out 0 (writing.writtenBytes x t)) gate;

@@ -161,7 +161,7 @@ abbrev pub appendedBytes : Appended → ℕ → List ℕ → List ℕ
 appendedBytes (appended.Length n) place bytes = sets bytes place (leBytes 8 n)
 appendedBytes (appended.Refused refusal) place bytes = bytes
 
-pub record Told (said : Appended) (place : ℕ) (bytes : List ℕ) (r : ℕ) (left : List ℕ) : Type 0 where
+pub record StoresLength (said : Appended) (place : ℕ) (bytes : List ℕ) (r : ℕ) (left : List ℕ) : Type 0 where
   pub answer : r ≡ appendedNumber said
   pub line : left ≡ appendedBytes said place bytes
 
@@ -176,13 +176,13 @@ abbrev pub writeRow : List ℕ → List ℕ → ℕ → List Test
 writeRow bytes count room = ((eqb (length count) 1, NoRoom) ∷ lineTests bytes) ++ writeTests (textIn bytes) room
 
 -- how they end
-unfoldable pub writeGate : List ℕ → List ℕ → ℕ → Gate
-writeGate bytes count room = askedAll Open (writeRow bytes count room)
+unfoldable pub lineWriteGate : List ℕ → List ℕ → ℕ → Gate
+lineWriteGate bytes count room = askedAll Open (writeRow bytes count room)
 
 pub record LineWrites (bytes out count : List ℕ) (r : ℕ) (out-left count-left : List ℕ) : Type 0 where
-  pub answer : r ≡ writtenNumber (writtenOf (writeGate bytes count (length out)) (textIn bytes))
-  pub text : out-left ≡ sets out 0 (writtenBytes (writeGate bytes count (length out)) (textIn bytes))
-  pub told : count-left ≡ sets count 0 (writtenCount (writtenOf (writeGate bytes count (length out)) (textIn bytes)))
+  pub answer : r ≡ writtenNumber (writtenOf (lineWriteGate bytes count (length out)) (textIn bytes))
+  pub text : out-left ≡ sets out 0 (writtenBytes (lineWriteGate bytes count (length out)) (textIn bytes))
+  pub told : count-left ≡ sets count 0 (writtenCount (writtenOf (lineWriteGate bytes count (length out)) (textIn bytes)))
 
 -- ---- comparing
 

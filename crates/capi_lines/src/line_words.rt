@@ -5,23 +5,23 @@ ghost use Rattle.words.specs.Telling.{wordsNumber, wordsValues};
 ghost use Rattle.capi.specs.Values.{Tells};
 ghost use Rattle.capi_lines.specs.LineWords.{LineWords};
 use answers::Refusal;
-use words::Told;
+use words::Answer;
 
 // The number of what reading says; how many words, or the place of the unclosed quote, into `out`.
-fn tell(out: &mut [u64], told: Told) -> u32
+fn tell(out: &mut [u64], told: Answer) -> u32
     requires { ⌜ length (now out) ≡ 1 ⌝ }
     ensures { λ r. ⌜ Tells (wordsNumber told) (wordsValues told) (now (out .entry)) r (now (out .exit)) ⌝ }
 {
     match told {
-        Told::Words(n) => {
+        Answer::Words(n) => {
             out[0] = n as u64;
             0
         }
-        Told::UnclosedQuote(place) => {
+        Answer::UnclosedQuote(place) => {
             out[0] = place as u64;
             answers::number(Refusal::UnclosedQuote)
         }
-        Told::TooFewPlaces => answers::number(Refusal::TooFewPlaces),
+        Answer::TooFewPlaces => answers::number(Refusal::TooFewPlaces),
     }
 }
 

@@ -6,7 +6,7 @@ ghost use Rattle.answers.specs.Pick.{pick};
 ghost use Rattle.cmdline.specs.Writing.{writtenNumber, writtenCount};
 ghost use Rattle.loader.specs.Lines.{lineNumber};
 ghost use Rattle.capi.specs.Values.{Tells};
-ghost use Rattle.capi_lines.specs.Lines.{headerBy, withText, idBy, Told, Makes};
+ghost use Rattle.capi_lines.specs.Lines.{headerBy, withText, idBy, StoresLength, Makes};
 use answers::Gate;
 use answers::Refusal;
 use cmdline::DeviceId;
@@ -67,7 +67,7 @@ pub(crate) fn text_at(bytes: &[u8], place: usize, n: usize) -> &[u8]
 
 // The number of what an insertion says; the length of the text that it appended to, at its place.
 pub(crate) fn tell(bytes: &mut [u8], place: u64, appended: Appended) -> u32
-    ensures { λ r. ⌜ Told appended place (now (bytes .entry)) r (now (bytes .exit)) ⌝ }
+    ensures { λ r. ⌜ StoresLength appended place (now (bytes .entry)) r (now (bytes .exit)) ⌝ }
 {
     match appended {
         Appended::Refused(refusal) => answers::number(refusal),

@@ -49,7 +49,7 @@ e1 =
 unfoldable pub note : List ℕ
 note = leBytes 4 4 ++ leBytes 4 4 ++ leBytes 4 18 ++ xen ++ leBytes 4 0x100000
 
--- ---- what is asked, and what is told
+-- ---- what is asked, and what comes of it
 
 -- a load of e1 into so many zero bytes, the whole of them or with a map; a walk over the note with this file size; a line made and called at a capacity
 pub data Ask : Type 0 where
@@ -59,7 +59,7 @@ pub data Ask : Type 0 where
   lines : Making → List Call → ℕ → Ask
 
 -- the catalogue's number, 0 for accepted; the values; and what is left: guest memory, or a line's boot text and init text
-pub record Told : Type 0 where
+pub record Result : Type 0 where
   pub number : ℕ
   pub values : List ℕ
   pub left : List (List ℕ)
@@ -77,19 +77,19 @@ lastNumber (s ∷ []) = saidNumber s
 lastNumber (s ∷ (u ∷ ss)) = lastNumber (u ∷ ss)
 
 -- what a load of e1 by a plan says and leaves
-abbrev planned : Plan Answer → ℕ → Told
+abbrev planned : Plan Answer → ℕ → Result
 planned plan size = record { number = answerNumber (plan .answer); values = answerValues (plan .answer); left = pour (plan .stream) (zeros size) ∷ [] }
 
 abbrev elfWith : Given → Given → Options
 elfWith offset highmem = record { format = Elf; «kernel_offset» = offset; «highmem_start» = highmem }
 
-unfoldable pub told : Ask → Told
-told (loads size offset highmem) = planned (planOf e1 (wholeOf size) (elfWith offset highmem)) size
-told (loads-over size numbers) = planned (planOf e1 (memoryOf (zeros size) (mapOf numbers)) (elfWith Nothing Nothing)) size
-told (walks size) =
+unfoldable pub resultOf : Ask → Result
+resultOf (loads size offset highmem) = planned (planOf e1 (wholeOf size) (elfWith offset highmem)) size
+resultOf (loads-over size numbers) = planned (planOf e1 (memoryOf (zeros size) (mapOf numbers)) (elfWith Nothing Nothing)) size
+resultOf (walks size) =
     let said = publicNote note (record { 0 = 0 }) size in
     record { number = noteNumber (said .answer); values = noteValues (said .answer) (said .headers); left = [] }
-told (lines making calls capacity) =
+resultOf (lines making calls capacity) =
     let after = run making calls capacity in
     record { number = lastNumber (after .said); values = []; left = after .text .boot ∷ after .text .init ∷ [] }
 
@@ -97,15 +97,15 @@ told (lines making calls capacity) =
 
 pub record Case : Type 0 where
   pub ask : Ask
-  pub want : Told
+  pub want : Result
 
 abbrev at : ℕ → Given
 at address = At (record { 0 = address })
 
-abbrev accepted : List ℕ → List (List ℕ) → Told
+abbrev accepted : List ℕ → List (List ℕ) → Result
 accepted values left = record { number = 0; values = values; left = left }
 
-abbrev refused : Refusal → List (List ℕ) → Told
+abbrev refused : Refusal → List (List ℕ) → Result
 refused r left = record { number = numberOf r; values = []; left = left }
 
 -- load address, end, and PVH ignored

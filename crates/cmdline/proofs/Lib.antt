@@ -3,6 +3,7 @@ pub mod PlanLaws
 pub mod WritingLaws
 pub mod HeldLaws
 pub mod InPlaceLaws
+pub mod NeverCut
 pub mod DigitsLaws
 pub mod DeviceFits
 pub mod DeviceLaws

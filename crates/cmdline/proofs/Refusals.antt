@@ -18,10 +18,10 @@ use Rattle.cmdline.specs.declared.Reply.{Reply}
 use Rattle.cmdline.specs.declared.Written.{Written}
 use Rattle.cmdline.specs.declared.Written.the-variants as written
 use Rattle.cmdline.specs.Text.{Text}
-use Rattle.cmdline.specs.Insertion.{answerOf, insert, insertStr, insertInitArgs, insertMultiple}
+use Rattle.cmdline.specs.Insertion.{answerOf, callNumber, insert, insertStr, insertInitArgs, insertMultiple}
 use Rattle.cmdline.specs.Device.{addDevice}
 use Rattle.cmdline.specs.Making.{new, tryFrom}
-use Rattle.cmdline.specs.Writing.{bare, writeTests, writeGate, writtenOf, Writes}
+use Rattle.cmdline.specs.Writing.{bare, writeTests, writeGate, writtenOf, writtenNumber, Writes}
 use Rattle.cmdline.specs.Held.{textOf}
 use Rattle.cmdline.specs.Keeping.{Says}
 use Rattle.cmdline.specs.Answering.{AnswersBy, WritesBy}
@@ -61,6 +61,8 @@ by-row ts {a} e =
       where-accepted = λ is. open-all ts (answered-open (askedAll Open ts) (sym e ∙ is));
       refused-where = λ refusal f. e ∙ ap answerOf (first-shut ts refusal f);
       where-refused = λ refusal is. shut-first ts refusal (answered-shut (askedAll Open ts) (sym e ∙ is));
+      accepted-number = λ h. ap callNumber (e ∙ ap answerOf (all-open ts h));
+      refused-number = λ refusal f. ap callNumber (e ∙ ap answerOf (first-shut ts refusal f));
     }
 
 -- ---- each call
@@ -98,12 +100,14 @@ written-shut t (Shut first) {refusal} e = let is : _≡_ {A = Refusal} first ref
 
 by-writing : (t : Text) (out : List ℕ) {w : Written} {left : List ℕ} → Writes t out w left → WritesBy t (length out) w
 by-writing t out {w} writes =
-    let room = length out in
+    let by : (g : Gate) → writeGate t (length out) ≡ g → w ≡ writtenOf g t = λ g e. writes .answer ∙ ap (λ (x : Gate). writtenOf x t) e in
     record {
-      written-where = λ h. writes .answer ∙ ap (λ (g : Gate). writtenOf g t) (all-open (writeTests t (length out)) h);
+      written-where = λ h. by Open (all-open (writeTests t (length out)) h);
       where-written = λ n is. open-all (writeTests t (length out)) (written-open t (writeGate t (length out)) (sym (writes .answer) ∙ is));
-      refused-where = λ refusal f. writes .answer ∙ ap (λ (g : Gate). writtenOf g t) (first-shut (writeTests t (length out)) refusal f);
+      refused-where = λ refusal f. by (Shut refusal) (first-shut (writeTests t (length out)) refusal f);
       where-refused = λ refusal is. shut-first (writeTests t (length out)) refusal (written-shut t (writeGate t (length out)) (sym (writes .answer) ∙ is));
+      written-number = λ h. ap writtenNumber (by Open (all-open (writeTests t (length out)) h));
+      refused-number = λ refusal f. ap writtenNumber (by (Shut refusal) (first-shut (writeTests t (length out)) refusal f));
     }
 
 pub as-cstring-answers : Says 1 as-cstring-kinds.ps as-cstring-kinds.r as-cstring-reads.Post (λ κs a z. WritesBy (textOf (a .0)) (length (a .1 .0 .now)) z)

@@ -53,6 +53,10 @@ joined-long b s =
     let g = space-long (length b) in
     length-append b (spaceAfter (length b) ++ s) ∙ rw (length-append (spaceAfter (length b)) s, g) (omega arith)
 
+-- the length of a text of n bytes after s was put behind it
+pub after-long : (n : ℕ) (s : List ℕ) → n + length (spaceAfter n ++ s) ≡ n + bootGap n + length s
+after-long n s = let g = space-long n in let whole = length-append (spaceAfter n) s in omega arith
+
 -- the counted size after an insertion: what room was asked for, or less
 pub size-after-boot : (b i g n : ℕ) → sizeOf (b + g + n) i ≡ sizeOf b i + g + n
 unfolding sizeOf

@@ -1,4 +1,4 @@
--- Insertion in place, by the lengths of the texts: what it asks, what is put after the text, and what it leaves of the lent buffer.
+-- Insertion in place, by the lengths of the texts: what it asks, what is put after the text, and what it leaves of the caller's buffer.
 use Prim.Native.Nat.{ℕ, _+_, min}
 use mathlib.Core.Path.{_≡_}
 use mathlib.Core.Bool.{not}
@@ -6,7 +6,7 @@ use mathlib.Core.List.{List, [], _∷_, _++_}
 use lib.Dec.{leb, eqb}
 use lib.ListN.{length}
 use lib.Seq.{sets}
-use Rattle.answers.specs.Tests.{Test, askedAll}
+use Rattle.answers.specs.Tests.{Test, asked, askedAll}
 use Rattle.answers.specs.declared.Refusal.the-variants as refusal
 use Rattle.answers.specs.declared.Gate.{Gate}
 use Rattle.answers.specs.declared.Gate.the-variants.{Open, Shut}
@@ -74,8 +74,14 @@ pub record AppendsBy (gate : Gate) (buffer : List ℕ) (n : ℕ) (s : List ℕ) 
   pub answer : r ≡ appendedOf gate (min (n + length (spaceAfter n ++ s)) (length buffer))
   pub bytes : left ≡ settled gate buffer (sets buffer n (spaceAfter n ++ s))
 
-abbrev pub Appends : Append → List ℕ → ℕ → Appended → List ℕ → Type 0
-Appends g buffer n r left = AppendsBy (askedAll Open (g .tests)) buffer n (g .slug) r left
+-- the tests of an insertion after a text of n bytes, and then that the buffer holds the whole text
+abbrev pub appendGate : Append → List ℕ → ℕ → Gate
+appendGate g buffer n = asked (askedAll Open (g .tests)) (leb (n + length (spaceAfter n ++ g .slug)) (length buffer)) refusal.TooLarge
+
+-- an insertion into a buffer: the length of the whole text, which is there; or the refusal, and the buffer as it was
+pub record Appends (g : Append) (buffer : List ℕ) (n : ℕ) (r : Appended) (left : List ℕ) : Type 0 where
+  pub answer : r ≡ appendedOf (appendGate g buffer n) (n + length (spaceAfter n ++ g .slug))
+  pub bytes : left ≡ settled (appendGate g buffer n) buffer (sets buffer n (spaceAfter n ++ g .slug))
 
 -- the line with another boot buffer, where its text has appended
 abbrev pub bootReply : Appended → List ℕ → Cmdline → Reply

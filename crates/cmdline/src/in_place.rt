@@ -1,5 +1,5 @@
-// Insertions into a line in place: the buffer of the text that is appended to is lent, with the lengths of both texts and the capacity.
-// Everything is asked first; then only the places of the new text are written. A refused insertion writes nothing.
+// Insertions into a line in place: the caller's buffer holds the text that is appended to; the lengths of both texts and the capacity are
+// given. Everything is checked first, the room in the buffer last; then only the new text is written. A refused insertion writes nothing.
 ghost use Prim.Native.Nat.{min};
 ghost use Rattle.cmdline.specs.Limit.{limit};
 ghost use Rattle.cmdline.specs.InPlace.{Appends, AppendsBy, strAppend, pairAppend, listAppend, deviceAppend, initAppend};
@@ -68,6 +68,8 @@ pub fn insert_str(
     let gate = answers::require(Gate::Open, bytes::all_printable(s), Refusal::InvalidAscii);
     let room = sizes::boot_room(boots, inits, capacity, s.len());
     let gate = answers::require(gate, room, Refusal::TooLarge);
+    let room = sizes::buffer_room(boot.len(), boots, s.len());
+    let gate = answers::require(gate, room, Refusal::TooLarge);
     append_slug(gate, boot, copying::lesser(boots, LIMIT), s)
 }
 
@@ -86,6 +88,8 @@ pub fn insert(
     let gate = values::ask(gate, value);
     let count = sizes::sum(sizes::sum(key.len(), 1), value.len());
     let room = sizes::boot_room(boots, inits, capacity, count);
+    let gate = answers::require(gate, room, Refusal::TooLarge);
+    let room = sizes::buffer_room(boot.len(), boots, count);
     let gate = answers::require(gate, room, Refusal::TooLarge);
     append_pair(gate, boot, copying::lesser(boots, LIMIT), key, value)
 }
@@ -130,6 +134,8 @@ pub fn insert_multiple(
     let count = sizes::sum(sizes::sum(key.len(), ends.len()), values.len());
     let room = sizes::boot_room(boots, inits, capacity, count);
     let gate = answers::require(gate, room, Refusal::TooLarge);
+    let room = sizes::buffer_room(boot.len(), boots, count);
+    let gate = answers::require(gate, room, Refusal::TooLarge);
     append_list(gate, boot, copying::lesser(boots, LIMIT), key, values, ends)
 }
 
@@ -167,6 +173,8 @@ pub fn insert_init_args(
     let s = trimming::trimmed(slug);
     let gate = answers::require(Gate::Open, bytes::all_printable(s), Refusal::InvalidAscii);
     let room = sizes::init_room(boots, inits, capacity, s.len());
+    let gate = answers::require(gate, room, Refusal::TooLarge);
+    let room = sizes::buffer_room(init.len(), inits, s.len());
     let gate = answers::require(gate, room, Refusal::TooLarge);
     append_slug(gate, init, copying::lesser(inits, LIMIT), s)
 }

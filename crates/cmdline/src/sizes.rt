@@ -103,6 +103,14 @@ pub(crate) fn boot_room(boots: usize, inits: usize, capacity: usize, n: usize) -
     )
 }
 
+// Does a buffer hold a text and n bytes more, with the space between them?
+pub(crate) fn buffer_room(buffer: usize, text: usize, n: usize) -> bool
+    ensures { λ r. ⌜ r ≡ leb (min text limit + bootGap (min text limit) + n) buffer ⌝ }
+{
+    let t = copying::lesser(text, LIMIT);
+    within(buffer, t + boot_gap(t), n)
+}
+
 // Is there room for n bytes more of init text?
 pub(crate) fn init_room(boots: usize, inits: usize, capacity: usize, n: usize) -> bool
     ensures { λ r. ⌜ r ≡ leb (sizeOf (min boots limit) (min inits limit) + initGap (min inits limit) + n) (min capacity limit) ⌝ }

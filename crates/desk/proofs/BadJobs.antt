@@ -1,5 +1,5 @@
--- "A table or job that breaks any of this is 70, asked first": a job is refused with 70 exactly where it is not a good one. No refusal of a load, of
--- `try_from` or of a line put into guest memory has that number.
+-- "A table or job that breaks any of this is 70, asked first": a job is refused with 70 exactly where it is not a good one, and prints `refused 70`
+-- (`bad-prints`). No refusal of a load, of `try_from` or of a line put into guest memory has that number.
 use Prim.Native.Nat.{ℕ}
 use mathlib.Core.Path.{_≡_, refl, ap, subst}
 use mathlib.Core.List.{List, [], _∷_, _++_}
@@ -12,6 +12,7 @@ use Rattle.answers.proofs.TestsLaws.{all-open, first-shut}
 use Rattle.answers.proofs.ListingLaws.{first-listed, listed-left, listed-right}
 use Rattle.answers.proofs.PickLaws.{pick-with}
 use Rattle.guest.specs.Loading.{Plan}
+use Rattle.guest.specs.Room.{wholeOf}
 use Rattle.guest.specs.declared.Answer.{Answer}
 use Rattle.guest.specs.declared.Answer.the-variants.{Loaded, Refused}
 use Rattle.guest.specs.declared.Given.the-variants.{Nothing}
@@ -30,8 +31,9 @@ use Rattle.loader.proofs.Refusals.{line-listed}
 use Rattle.loads.specs.Formats.{answerBy}
 use Rattle.loads.specs.declared.Format.{Format}
 use Rattle.loads.specs.declared.Format.the-variants.{Elf, BzImage}
-use Rattle.desk.specs.Table.{jobTests}
+use Rattle.desk.specs.Table.{jobTests, imageRow}
 use Rattle.desk.specs.GoodJob.{GoodJob, jobNumbers}
+use Rattle.desk.specs.Printing.{refusedWord, numberLine, answerText, printed}
 use Rattle.desk.specs.Work.{imageFormat, imagePlan, lineCapacity, linePlan, withLine, addPlan, jobImagePlan, bodiesPlan, jobPlan}
 use Rattle.desk.proofs.GoodJobs.{tests-good, good-tests}
 use Rattle.desk.proofs.Verdicts.{only-bad-job}
@@ -102,3 +104,7 @@ refused-bad job m =
     behind-with Refused (jobTests job) (bodiesPlan job m) (λ (p : Plan Answer). p .answer ≡ Refused BadJob → GoodJob job → ⊥)
     (λ hold e good. said-not-bad (bodies-said job m) e)
     (λ r fails e good. let opens = all-open (jobTests job) (good-tests job good) in let shuts = first-shut (jobTests job) r fails in let w : _≡_ {A = ℕ} 0 1 = cc in absurd (omega arith))
+
+pub bad-prints : (job : List ℕ) (size : ℕ) → (GoodJob job → ⊥) → printed job size ≡ numberLine refusedWord 70
+unfolding answerText
+bad-prints job size bad = ap (answerText (imageFormat (imageRow job .kind))) (bad-refused job (wholeOf size) bad)

@@ -1,4 +1,5 @@
--- The tests of a job, which the code asks in its own order, hold exactly where the job is good, sentence by sentence (`GoodJob`).
+-- The tests of a job, which the code asks in its own order, hold exactly where the job is good, sentence by sentence (`GoodJob`); a good job
+-- prints what its bodies give (`good-prints`).
 use Prim.Native.Nat.{ℕ, _+_, _*_, _≤_}
 use mathlib.Core.Path.{_≡_, sym, _∙_, refl, ap, subst, subst⁻¹}
 use mathlib.Core.Bool.{Bool, true, false, _&&_, _||_}
@@ -11,8 +12,15 @@ use borrow.Author.Tests.{eqb-true, eq-eqb, ne-eqb, leb-true, le-leb}
 use Rattle.answers.specs.Pick.{pick}
 use Rattle.answers.specs.Tests.{AllHold}
 use Rattle.answers.proofs.BoolLaws.{both-held, hold-both, one-held, left-holds, right-holds}
-use Rattle.desk.specs.Table.{most, countOf, rowOf, firstRow, secondRow, countGood, isImage, kindsGood, onePlaced, twoPlaced, placesGood, jobTests}
+use Rattle.guest.specs.Loading.{Plan}
+use Rattle.guest.specs.Room.{wholeOf}
+use Rattle.guest.specs.declared.Answer.{Answer}
+use Rattle.guest.specs.declared.Answer.the-variants.{Refused}
+use Rattle.guest.proofs.LoadingLaws.{all-planned}
+use Rattle.desk.specs.Table.{imageRow, most, countOf, rowOf, firstRow, secondRow, countGood, isImage, kindsGood, onePlaced, twoPlaced, placesGood, jobTests}
 use Rattle.desk.specs.GoodJob.{rowsFrom, rowsOf, tableSize, isLine, isKind, countWith, Bodies, no-rest, no-gap, GoodJob}
+use Rattle.desk.specs.Work.{imageFormat, bodiesPlan, jobPlan}
+use Rattle.desk.specs.Printing.{answerText, printed}
 use Rattle.desk.specs.declared.table.Row.{Row}
 use Rattle.desk.proofs.TableLaws.{kinds-one, places-one, places-two}
 use Rattle.desk.proofs.Verdicts.{table-inside}
@@ -226,3 +234,8 @@ good-tests job good =
     (λ e. (le-leb (length job) most (good .short), (left-holds (eqb (countOf job) 1) (eqb (countOf job) 2) (eq-eqb (countOf job) 1 e), (one-kind job good e, (one-place job good e, tt)))))
     (λ e. (le-leb (length job) most (good .short), (right-holds (eqb (countOf job) 1) (eqb (countOf job) 2) (eq-eqb (countOf job) 2 e), (two-kind job good e, (two-place job good e, tt)))))
     (good .rows)
+
+pub good-prints : (job : List ℕ) (size : ℕ) → GoodJob job → printed job size ≡ answerText (imageFormat (imageRow job .kind)) (bodiesPlan job (wholeOf size) .answer)
+unfolding jobPlan
+good-prints job size good =
+    ap (λ (p : Plan Answer). answerText (imageFormat (imageRow job .kind)) (p .answer)) (all-planned Refused (jobTests job) (bodiesPlan job (wholeOf size)) (good-tests job good))

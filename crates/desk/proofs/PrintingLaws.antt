@@ -18,8 +18,8 @@ use Rattle.guest.specs.declared.PvhBootCapability.{PvhBootCapability}
 use Rattle.guest.specs.declared.PvhBootCapability.the-variants.{PvhEntryPresent, PvhEntryNotPresent, PvhEntryIgnored}
 use Rattle.loads.specs.declared.Format.{Format}
 use Rattle.loads.specs.declared.Format.the-variants.{Elf, BzImage, Arm64}
-use Rattle.desk.specs.declared.Text.{Text}
-use Rattle.desk.specs.Printing.{loadWord, endWord, pvhWord, refusedWord, ignored, none, numberLine, pvhText, pvhLine, answerText, heldText}
+use Rattle.desk.specs.declared.Output.{Output}
+use Rattle.desk.specs.Printing.{loadWord, endWord, pvhWord, refusedWord, ignored, none, numberLine, pvhText, pvhLine, answerText, outputOf}
 
 module _ {d left : List ℕ} {at r : ℕ} where
   pub pvh-ignored : {pvh : PvhBootCapability} → pvh ≡ PvhEntryIgnored → Stored d at (pvhWord ++ ignored) left r → Stored d at (pvhText pvh) left r
@@ -65,7 +65,7 @@ line-told word n a b c = then a (then b c)
 
 -- what 80 zeros hold after a text was stored in them
 pub text-held : (f : Format) (answer : Answer) {bytes : List ℕ} {n : ℕ} → Stored (replicate 80 0) 0 (answerText f answer) bytes n
-    → _≡_ {A = Text} (record { bytes = bytes; length = n }) (heldText (answerText f answer))
+    → _≡_ {A = Output} (record { bytes = bytes; length = n }) (outputOf (answerText f answer))
 text-held f answer {bytes} {n} w =
     let long = length-replicate {A = ℕ} 80 0 in
     let place = w .place in

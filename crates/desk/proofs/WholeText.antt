@@ -16,7 +16,7 @@ use Rattle.guest.specs.declared.PvhBootCapability.{PvhBootCapability}
 use Rattle.guest.specs.declared.PvhBootCapability.the-variants.{PvhEntryPresent, PvhEntryNotPresent, PvhEntryIgnored}
 use Rattle.loads.specs.declared.Format.{Format}
 use Rattle.loads.specs.declared.Format.the-variants.{Elf, BzImage, Arm64}
-use Rattle.desk.specs.Printing.{loadWord, endWord, pvhWord, refusedWord, numberLine, pvhText, pvhLine, answerText, heldText}
+use Rattle.desk.specs.Printing.{loadWord, endWord, pvhWord, refusedWord, numberLine, pvhText, pvhLine, answerText, outputOf}
 
 -- no number has more digits than are looked for
 few-digits : (most base n : ℕ) (later : List ℕ) → length (digitsBefore most base n later) ≤ most + length later
@@ -58,7 +58,7 @@ text-few f (Loaded kernel) =
     let outer = length-append (numberLine loadWord load) (numberLine endWord end ++ pvhLine f (kernel .«pvh_boot_cap»)) in
     omega arith
 
-pub whole-text : (f : Format) (answer : Answer) → take (heldText (answerText f answer) .length) (heldText (answerText f answer) .bytes) ≡ answerText f answer
+pub whole-text : (f : Format) (answer : Answer) → take (outputOf (answerText f answer) .length) (outputOf (answerText f answer) .bytes) ≡ answerText f answer
 whole-text f answer =
     let text = answerText f answer in
     let few = text-few f answer in

@@ -1,6 +1,5 @@
 -- What a job prints: lines of text that say what came of it.
 use Prim.Native.Nat.{ℕ, min}
-use mathlib.Core.Path.{_≡_}
 use mathlib.Core.List.{List, [], _∷_, _++_}
 use lib.ListN.{length, replicate}
 use lib.Seq.{sets}
@@ -13,9 +12,9 @@ use Rattle.guest.specs.declared.PvhBootCapability.{PvhBootCapability}
 use Rattle.guest.specs.declared.PvhBootCapability.the-variants.{PvhEntryPresent, PvhEntryNotPresent, PvhEntryIgnored}
 use Rattle.loads.specs.declared.Format.{Format}
 use Rattle.loads.specs.declared.Format.the-variants.{Elf, BzImage, Arm64}
-use Rattle.desk.specs.declared.Text.{Text}
+use Rattle.desk.specs.declared.Output.{Output}
 use Rattle.desk.specs.Table.{imageRow}
-use Rattle.desk.specs.Work.{imageFormat, jobPlan, memoryAfter}
+use Rattle.desk.specs.Work.{imageFormat, jobPlan}
 
 -- ---- words, each with the space behind it
 
@@ -70,13 +69,6 @@ answerText format (Refused refusal) = numberLine refusedWord (numberOf refusal)
 abbrev pub printed : List ℕ → ℕ → List ℕ
 printed job size = answerText (imageFormat (imageRow job .kind)) (jobPlan job (wholeOf size) .answer)
 
--- ---- what is handed back
-
 -- a text at the front of 80 bytes
-abbrev pub heldText : List ℕ → Text
-heldText text = record { bytes = sets (replicate 80 0) 0 text; length = min (length text) 80 }
-
--- a job is done and told over a slice that held `before`: it hands back r and leaves `after`
-pub record Prints (job before : List ℕ) (r : Text) (after : List ℕ) : Type 0 where
-  pub text : r ≡ heldText (printed job (length before))
-  pub memory : after ≡ memoryAfter job before
+abbrev pub outputOf : List ℕ → Output
+outputOf text = record { bytes = sets (replicate 80 0) 0 text; length = min (length text) 80 }

@@ -24,6 +24,10 @@ use Rattle.loads.specs.declared.Format.{Format}
 use Rattle.loads.specs.declared.Format.the-variants.{Elf, BzImage}
 use Rattle.desk.specs.Table.{jobTests, imageRow, lineRow, hasLine, bodyOf}
 
+-- the bytes of guest memory that a job has
+abbrev pub guestSize : ℕ
+guestSize = 16384
+
 -- ---- the image
 
 -- kind 1 is an ELF image

@@ -1,11 +1,11 @@
 // A job of the desk program: an image, with or without a line, after a table of contents. The image is loaded into
-// guest memory that holds zeros, the line is put at the kernel's end, and a text says what came of it.
+// 16,384 zero bytes, the line is put at the kernel's end, and a text says what came of it.
 ghost use mathlib.Core.Path.{_≡_};
 ghost use lib.ListN.{length};
 ghost use Rattle.guest.specs.Loading.{Loads};
 ghost use Rattle.guest.specs.Room.{wholeOf};
-ghost use Rattle.desk.specs.Printing.{Prints};
-ghost use Rattle.desk.specs.Work.{imageFormat, imagePlan, BodiesLoad, Works};
+ghost use Rattle.desk.specs.Printing.{printed, outputOf};
+ghost use Rattle.desk.specs.Work.{guestSize, imageFormat, imagePlan, BodiesLoad, Works};
 use answers::Gate;
 use fields::copying;
 use guest::Answer;
@@ -18,8 +18,11 @@ mod lines;
 mod table;
 mod telling;
 
+// The bytes of guest memory that a job has.
+const GUEST: usize = 16384;
+
 // The text that a job prints, at the front of its bytes; the rest of them are 0.
-pub struct Text {
+pub struct Output {
     pub bytes: [u8; 80],
     pub length: usize,
 }
@@ -60,7 +63,7 @@ fn load_bodies(guest: &mut [u8], job: &[u8]) -> Answer
     lines::add(guest, answer, table::body(job, table::line(job)))
 }
 
-// Does a job. Guest memory is all of the lent bytes, and is cleared first; a job that is not good leaves it as it was.
+// Does a job over a caller's bytes. They are cleared first; a job that is not good leaves them as they were.
 pub fn work(guest: &mut [u8], job: &[u8]) -> Answer
     ensures { λ r. ⌜ Works (now (job .entry)) (now (guest .entry)) r (now (guest .exit)) ⌝ }
 {
@@ -74,11 +77,12 @@ pub fn work(guest: &mut [u8], job: &[u8]) -> Answer
     }
 }
 
-// Does a job, and tells it.
-pub fn run(guest: &mut [u8], job: &[u8]) -> Text
-    ensures { λ r. ⌜ Prints (now (job .entry)) (now (guest .entry)) r (now (guest .exit)) ⌝ }
+// Does a job over zero bytes of its own, and returns the text that says what came of it.
+pub fn do_job(job: &[u8]) -> Output
+    ensures { λ r. ⌜ r ≡ outputOf (printed (now (job .entry)) guestSize) ⌝ }
 {
-    let answer = work(guest, job);
+    let mut guest = [0u8; GUEST];
+    let answer = work(&mut guest, job);
     let image = table::image(job);
     telling::tell(format_of(image.kind), answer)
 }

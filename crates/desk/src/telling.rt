@@ -4,8 +4,8 @@ ghost use mathlib.Core.List.{[], _∷_, _++_};
 ghost use lib.ListN.{length};
 ghost use Rattle.cmdline.specs.Digits.{decimal};
 ghost use Rattle.slugs.specs.Stored.{Stored};
-ghost use Rattle.desk.specs.Printing.{numberLine, pvhText, pvhLine, answerText, heldText};
-use crate::Text;
+ghost use Rattle.desk.specs.Printing.{numberLine, pvhText, pvhLine, answerText, outputOf};
+use crate::Output;
 use cmdline::digits;
 use guest::Answer;
 use guest::PvhBootCapability;
@@ -57,12 +57,12 @@ fn put_answer(d: &mut [u8], format: Format, answer: Answer) -> usize
     }
 }
 
-pub(crate) fn tell(format: Format, answer: Answer) -> Text
-    ensures { λ r. ⌜ r ≡ heldText (answerText format answer) ⌝ }
+pub(crate) fn tell(format: Format, answer: Answer) -> Output
+    ensures { λ r. ⌜ r ≡ outputOf (answerText format answer) ⌝ }
 {
     let mut bytes = [0u8; 80];
     let length = put_answer(&mut bytes, format, answer);
-    Text {
+    Output {
         bytes: bytes,
         length: length,
     }

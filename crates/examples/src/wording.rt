@@ -1,17 +1,17 @@
 // The words of a line: the start, end and split of each.
 use crate::printing;
 use answers::Refusal;
-use words::Told;
+use words::Answer;
 
-fn print_told(told: Told, starts: &[u64], ends: &[u64], splits: &[u64]) {
+fn print_told(told: Answer, starts: &[u64], ends: &[u64], splits: &[u64]) {
     match told {
-        Told::UnclosedQuote(at) => {
+        Answer::UnclosedQuote(at) => {
             printing::refusal(Refusal::UnclosedQuote);
             printing::word(b" at");
             printing::number(at as u64);
         }
-        Told::TooFewPlaces => printing::refusal(Refusal::TooFewPlaces),
-        Told::Words(n) => {
+        Answer::TooFewPlaces => printing::refusal(Refusal::TooFewPlaces),
+        Answer::Words(n) => {
             printing::number(n as u64);
             printing::word(b" words, starts");
             printing::list(starts);

@@ -2,6 +2,7 @@ pub mod ListLaws
 pub mod PartLaws
 pub mod BytesLaws
 pub mod TrimmingLaws
+pub mod TrimmedEnds
 pub mod ValuesLaws
 pub mod StoredLaws
 pub mod ListsLaws

@@ -12,9 +12,9 @@ use Rattle.slugs.specs.Bytes.{space, equals}
 use Rattle.slugs.specs.Joining.{spaceAfter, joined}
 use Rattle.words.specs.Readers.{plainFrom}
 use Rattle.words.specs.Words.{Word, wordsFrom, wordsOf, unclosedOf}
-use Rattle.words.specs.Telling.{toldOf}
+use Rattle.words.specs.Telling.{answerFor}
 use Rattle.words.specs.Inserting.{Insertion, wordsAt, StandsAs, StandInOrder, all-read, next-read, ReadsBack}
-use Rattle.words.specs.declared.Told.the-variants.{Words}
+use Rattle.words.specs.declared.Answer.the-variants.{Words}
 use Rattle.words.proofs.JoinedLaws.{textOf, spacedOut, Goods, none-left, one-more, joined-words, joined-closed, line-snoc}
 
 -- ---- key and value stand at the places of their word
@@ -99,8 +99,8 @@ unfolding wordsAt
 words-count at [] = refl
 words-count at (x ∷ xs) = ap suc (words-count (suc (at + length (textOf x))) xs)
 
-told-all : (line : List ℕ) (n room : ℕ) → unclosedOf line ≡ length line → length (wordsOf line) ≡ n → n ≤ room → toldOf line room ≡ Words n
-unfolding toldOf pick
+told-all : (line : List ℕ) (n room : ℕ) → unclosedOf line ≡ length line → length (wordsOf line) ≡ n → n ≤ room → answerFor line room ≡ Words n
+unfolding answerFor pick
 told-all line n room c e h = rw (c, le-ltb (length line) (length line) (omega arith), e, le-ltb room n h)
 
 pub line-reads : (xs : List Insertion) → Goods xs → ReadsBack (lineOf xs) xs

@@ -6,6 +6,7 @@ pub mod OddQuotes
 pub mod PlacesLaws
 pub mod WordsPart
 pub mod LaidOut
+pub mod Refusals
 pub mod PassingLaws
 pub mod JoinedLaws
 pub mod QuotingLaws

@@ -13,14 +13,14 @@ use Rattle.answers.proofs.PickLaws.{pick-with}
 use Rattle.slugs.specs.Bytes.{quote}
 use Rattle.slugs.specs.Splitting.{evenQuotes}
 use Rattle.words.specs.Words.{wordsOf, unclosedOf}
-use Rattle.words.specs.Telling.{toldOf}
+use Rattle.words.specs.Telling.{answerFor}
 use Rattle.words.specs.HouseRule.{LastQuote}
-use Rattle.words.specs.declared.Told.{Told}
-use Rattle.words.specs.declared.Told.the-variants.{Words, UnclosedQuote, TooFewPlaces}
+use Rattle.words.specs.declared.Answer.{Answer}
+use Rattle.words.specs.declared.Answer.the-variants.{Words, UnclosedQuote, TooFewPlaces}
 use Rattle.words.proofs.EndsLaws.{Ends, found, closed, open-here, open-before, plain-ends}
 
 -- 1 of a refusal for an unclosed quote
-abbrev kind : Told → ℕ
+abbrev kind : Answer → ℕ
 kind (Words n) = 0
 kind (UnclosedQuote place) = 1
 kind TooFewPlaces = 0
@@ -62,8 +62,8 @@ module _ (line : List ℕ) where
   even-closed even = even-ends ends even
 
   -- so the refusal, whatever room there is
-  pub odd-refused : (room : ℕ) → evenQuotes true line ≡ false → (toldOf line room ≡ UnclosedQuote (unclosedOf line)) × LastQuote line (unclosedOf line)
-  unfolding toldOf pick
+  pub odd-refused : (room : ℕ) → evenQuotes true line ≡ false → (answerFor line room ≡ UnclosedQuote (unclosedOf line)) × LastQuote line (unclosedOf line)
+  unfolding answerFor pick
   odd-refused room odd = let l = odd-last odd in (rw (lt-ltb (unclosedOf line) (length line) (l .within)), l)
 
   parity : (b : Bool) → evenQuotes true line ≡ b → (evenQuotes true line ≡ true → ⊥) → evenQuotes true line ≡ false
@@ -71,13 +71,13 @@ module _ (line : List ℕ) where
   parity false e n = e
 
   -- and no other refusal is that
-  closed-kind : (room : ℕ) → evenQuotes true line ≡ true → kind (toldOf line room) ≡ 0
-  unfolding toldOf pick
+  closed-kind : (room : ℕ) → evenQuotes true line ≡ true → kind (answerFor line room) ≡ 0
+  unfolding answerFor pick
   closed-kind room even =
       rw (even-closed even, le-ltb (length line) (length line) (omega arith))
-      (pick-with (λ (t : Told). kind t ≡ 0) (ltb room (length (wordsOf line))) (λ e. refl) (λ e. refl))
+      (pick-with (λ (t : Answer). kind t ≡ 0) (ltb room (length (wordsOf line))) (λ e. refl) (λ e. refl))
 
-  pub refused-odd : (room place : ℕ) → toldOf line room ≡ UnclosedQuote place → (evenQuotes true line ≡ false) × (place ≡ unclosedOf line)
+  pub refused-odd : (room place : ℕ) → answerFor line room ≡ UnclosedQuote place → (evenQuotes true line ≡ false) × (place ≡ unclosedOf line)
   refused-odd room place told =
       let odd = parity (evenQuotes true line) refl (λ even. let z = sym (closed-kind room even) ∙ ap kind told in absurd (omega arith)) in
       (odd, same-place (sym (odd-refused room odd .0) ∙ told))

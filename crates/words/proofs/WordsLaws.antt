@@ -10,7 +10,7 @@ use lib.Dec.{eqb}
 use lib.ListN.{length, getD, drop, set, length-drop}
 use lib.Seq.{sets}
 use Rattle.answers.specs.Pick.{pick}
-use Rattle.words.specs.Words.{Word, endOf, wordAt, wordsFrom, wordsOf, starts, ends, splits, Written}
+use Rattle.words.specs.Words.{Word, endOf, wordAt, wordsFrom, wordsOf, starts, ends, splits, WordsWritten}
 use Rattle.words.proofs.ReadersLaws.{plain-between, quoted-between, plain-quote, plain-on}
 
 -- not past the end
@@ -106,7 +106,7 @@ pub stands-start : (all : List Word) (a b c : List ℕ) → Stands all all 0 a b
 stands-start all a b c = record { starts-on = refl; ends-on = refl; splits-on = refl }
 
 module _ {all : List Word} {n : ℕ} {a₀ b₀ c₀ a b c : List ℕ} where
-  pub stands-end : Stands all [] n a₀ b₀ c₀ a b c → Written all 0 a₀ b₀ c₀ a b c
+  pub stands-end : Stands all [] n a₀ b₀ c₀ a b c → WordsWritten all 0 a₀ b₀ c₀ a b c
   stands-end s = record { starts-at = s .starts-on; ends-at = s .ends-on; splits-at = s .splits-on }
 
   pub stands-next : (w : Word) (ws : List Word) {a' b' c' : List ℕ} → a' ≡ set a n (w .start) → b' ≡ set b n (w .end) → c' ≡ set c n (w .split)

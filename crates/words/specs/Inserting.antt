@@ -10,8 +10,8 @@ use Rattle.slugs.specs.Values.{quoted, pair}
 use Rattle.cmdline.specs.declared.Answer.the-variants.{Accepted}
 use Rattle.cmdline.specs.Calls as Calls
 use Rattle.words.specs.Words.{Word, wordsOf, unclosedOf}
-use Rattle.words.specs.Telling.{toldOf}
-use Rattle.words.specs.declared.Told.the-variants.{Words}
+use Rattle.words.specs.Telling.{answerFor}
+use Rattle.words.specs.declared.Answer.the-variants.{Words}
 
 -- what one insertion is given
 pub record Insertion : Type 0 where
@@ -60,4 +60,4 @@ pub record ReadsBack (line : List ℕ) (xs : List Insertion) : Type 0 where
   pub closed : unclosedOf line ≡ length line
   pub placed : wordsOf line ≡ wordsAt 0 xs
   pub in-order : StandInOrder line (wordsOf line) xs
-  pub told : (room : ℕ) → length xs ≤ room → toldOf line room ≡ Words (length xs)
+  pub told : (room : ℕ) → length xs ≤ room → answerFor line room ≡ Words (length xs)

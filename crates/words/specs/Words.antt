@@ -55,7 +55,7 @@ abbrev pub splits : List Word → List ℕ
 splits = map (λ w. w .split)
 
 -- words in three lists, from a place of them on, each as far as its list goes; every other place is kept
-pub record Written (ws : List Word) (n : ℕ) (a b c a' b' c' : List ℕ) : Type 0 where
+pub record WordsWritten (ws : List Word) (n : ℕ) (a b c a' b' c' : List ℕ) : Type 0 where
   pub starts-at : a' ≡ sets a n (starts ws)
   pub ends-at : b' ≡ sets b n (ends ws)
   pub splits-at : c' ≡ sets c n (splits ws)

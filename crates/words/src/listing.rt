@@ -3,7 +3,7 @@ ghost use mathlib.Core.Path.{_≡_};
 ghost use lib.Dec.{eqb};
 ghost use Prim.Native.Nat.{_≤_};
 ghost use lib.ListN.{length, getD, set};
-ghost use Rattle.words.specs.Words.{wordsOf, splitOf, Written};
+ghost use Rattle.words.specs.Words.{wordsOf, splitOf, WordsWritten};
 use crate::readers;
 
 // Is there a quote at a place? Past the end there is none.
@@ -75,7 +75,7 @@ fn split_of(line: &[u8], at: usize, end: usize) -> usize
 
 // The words into three lists, as far as each goes.
 pub(crate) fn write(line: &[u8], starts: &mut [u64], ends: &mut [u64], splits: &mut [u64])
-    ensures { λ _. ⌜ Written (wordsOf (now (line .entry))) 0 (now (starts .entry)) (now (ends .entry)) (now (splits .entry)) (now (starts .exit)) (now (ends .exit)) (now (splits .exit)) ⌝ }
+    ensures { λ _. ⌜ WordsWritten (wordsOf (now (line .entry))) 0 (now (starts .entry)) (now (ends .entry)) (now (splits .entry)) (now (starts .exit)) (now (ends .exit)) (now (splits .exit)) ⌝ }
 {
     let mut n = 0;
     let mut i = 0;

@@ -4,6 +4,7 @@ use mathlib.Core.List.{_++_, _∷_}
 use mathlib.Core.Path.{_∙_, ap, sym}
 use native.Mathlib.Omega.{arith}
 use lib.ListN.{length-append}
+use borrow.Author.Needs.{needs}
 use Rattle.answers.specs.Tests.{askedAll}
 use Rattle.answers.specs.declared.Gate.the-variants.{Open}
 use Rattle.answers.proofs.TestsLaws.{asked-append}
@@ -14,61 +15,36 @@ use Rattle.slugs.proofs.ValuesLaws.{pair-told}
 use Rattle.cmdline.specs.Limit.{limit}
 use Rattle.cmdline.specs.InPlace.{pairAppend}
 use Rattle.cmdline.proofs.InPlaceLaws.{slug-appends}
-use borrow.Author.Needs.{needs}
 use Rattle.cmdline.proofs.in_place.insert.Statement.{statement}
 use Rattle.cmdline.proofs.in_place.insert.Tie as tie
-
-ask-requires : tie.Need-ask-requires
-ask-requires c κs = search needs
-
-ask-requires-2 : tie.Need-ask-requires-2
-ask-requires-2 c κs = search needs
-
-sum-requires : tie.Need-sum-requires
-sum-requires c κs = search needs
-
-sum-requires-2 : tie.Need-sum-requires-2
-sum-requires-2 c κs = search needs
-
-boot-room-requires : tie.Need-boot-room-requires
-boot-room-requires c κs = search needs
-
-require-requires : tie.Need-require-requires
-require-requires c κs = search needs
-
-lesser-requires : tie.Need-lesser-requires
-lesser-requires c κs = search needs
-
-append-pair-requires : tie.Need-append-pair-requires
-append-pair-requires c κs = search needs
-
-same-length : tie.Need-same-length
-same-length c = search needs
 
 returns : tie.Need-returns
 unfolding pairAppend
 returns c =
-    let args = c .before .before .before .before .before .before .before .before .before .before .before .before .before .before .args in
+    let args = c .before .before .before .before .before .before .before .before .before .before .before .before .before .before .before .before .args in
     let key = args .key .now in
     let value = args .value .now in
-    let count = c .before .before .before .before .before .before .before .sum2 .ensures in
-    let first = c .before .before .before .before .before .before .before .before .sum .ensures in
+    let count = c .before .before .before .before .before .before .before .before .before .sum2 .ensures in
+    let first = c .before .before .before .before .before .before .before .before .before .before .sum .ensures in
     let long = length-append key (equals ∷ value) in
     slug-appends (keyTests key ++ valueTests value) (pair key value) (pair-told key value) (min (args .boots) limit) (min (args .inits) limit) (min (args .capacity) limit) (omega arith)
-    (c .before .before .before .before .before .before .before .before .before .ask2 .ensures ∙ ap (λ g. askedAll g (valueTests value)) (c .before .before .before .before .before .before .before .before .before .before .ask .ensures) ∙ sym (asked-append Open (keyTests key) (valueTests value)))
-    (λ hold. omega arith) (c .before .before .before .before .before .before .boot-room .ensures) (c .before .before .before .before .before .require .ensures) (c .before .before .before .lesser .ensures) (c .before .before .append-pair .ensures)
+    (c .before .before .before .before .before .before .before .before .before .before .before .ask2 .ensures ∙ ap (λ g. askedAll g (valueTests value)) (c .before .before .before .before .before .before .before .before .before .before .before .before .ask .ensures) ∙ sym (asked-append Open (keyTests key) (valueTests value)))
+    (λ hold. omega arith) (c .before .before .before .before .before .before .before .before .boot-room .ensures) (c .before .before .before .before .before .before .before .require .ensures) (c .before .before .before .before .before .before .buffer-room .ensures) (c .before .before .before .before .before .require2 .ensures)
+    (c .before .before .before .lesser .ensures) (c .before .before .append-pair .ensures)
 
 pub insert-spec : {M : Type 1} → statement M
 insert-spec =
     tie.close
     (tie.spec
-    ask-requires
-    ask-requires-2
-    sum-requires
-    sum-requires-2
-    boot-room-requires
-    require-requires
-    lesser-requires
-    append-pair-requires
-    same-length
+    (λ c κs. search needs)
+    (λ c κs. search needs)
+    (λ c κs. search needs)
+    (λ c κs. search needs)
+    (λ c κs. search needs)
+    (λ c κs. search needs)
+    (λ c κs. search needs)
+    (λ c κs. search needs)
+    (λ c κs. search needs)
+    (λ c κs. search needs)
+    (λ c. search needs)
     returns)
