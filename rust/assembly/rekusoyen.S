@@ -6,6 +6,8 @@
 #else
 #error "the library is assembly text for Linux on x86-64 and aarch64"
 #endif
+	.globl	rekusoyen_job
+	.set	rekusoyen_job, rekusoyen_job_0_1_0
 	.globl	rekusoyen_kind
 	.set	rekusoyen_kind, rekusoyen_kind_0_1_0
 	.globl	rekusoyen_line_add_virtio_mmio_device
