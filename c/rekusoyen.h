@@ -1,7 +1,8 @@
 /*
  * The proved kernel loader for C and C++: ELF images with their PVH note, bzImages, arm64 Images, and the kernel
- * command line. A program includes this header and links the static library that `tools/make-library` makes; from an
- * archive that `tools/dist` makes by pkg-config, `cc program.c $(pkg-config --cflags --libs rekusoyen)`.
+ * command line. A program includes this header and links the library, static or shared, which `make -C c` builds and
+ * installs: `cc program.c $(pkg-config --cflags --libs rekusoyen)`; or it takes the library's text as one more source
+ * file, rust/assembly/rekusoyen.S.
  *
  * Answers. Every function that returns a uint32_t, but rekusoyen_kind, returns REKUSOYEN_ACCEPTED or one refusal. Its
  * comment lists its refusals in the order in which they are checked, without the prefix REKUSOYEN_: the first whose
@@ -216,12 +217,13 @@ static inline const char *rekusoyen_answer_sentence(uint32_t answer)
 
 /*
  * The stack that a call uses at most, without what memcpy, memmove and memset themselves use: a load of an image, its
- * plan or a part of it, a note walk, a boot page or a start block; a step of a load; and a call on a line. The tests of
- * this header measure every function (c/tests/stack.c).
+ * plan or a part of it, a note walk, a boot page or a start block; a step of a load; a call on a line; and a job, which
+ * has its guest memory there. The tests of this header measure every function (c/tests/stack.c).
  */
 #define REKUSOYEN_LOAD_STACK_SIZE ((size_t)2048)
 #define REKUSOYEN_STEP_STACK_SIZE ((size_t)8192)
 #define REKUSOYEN_LINE_STACK_SIZE ((size_t)4096)
+#define REKUSOYEN_JOB_STACK_SIZE ((size_t)262144)
 
 /* ---- guest memory */
 
@@ -1052,6 +1054,26 @@ static inline uint32_t rekusoyen_line_words(
     return rekusoyen_raw_line_words(
         text, text_len, starts, starts_len, ends, ends_len, splits, splits_len, count, 1);
 }
+
+/* ---- a job of the desk program */
+
+/* The most bytes of a valid job, and the bytes for its text. */
+#define REKUSOYEN_JOB_LIMIT 16384
+#define REKUSOYEN_JOB_TEXT_SIZE 80
+
+/*
+ * Does a job: an image, with or without a line, after a table of contents. The image is loaded into 16,384 zero bytes
+ * of the call's own, the line is put at the kernel's end, and the text says what came of it.
+ *
+ *   job   the job, of any length; one that is not valid has the text `refused 70`
+ *   text  REKUSOYEN_JOB_TEXT_SIZE bytes
+ *
+ * Refusals:
+ *   NO_ROOM  text_len is not REKUSOYEN_JOB_TEXT_SIZE
+ *
+ * Leaves, accepted: in text what the desk program prints, lines that each end with a line feed, and zeros after them.
+ */
+uint32_t rekusoyen_job(const uint8_t *job, size_t job_len, uint8_t *text, size_t text_len);
 
 #ifdef __cplusplus
 }

@@ -87,7 +87,13 @@ pub const START_BLOCK_NUMBERS: usize = 10;
 /// How many numbers a row of either of its lists has.
 pub const START_ROW_NUMBERS: usize = 4;
 
-extern "C" {
+/// The most bytes of a valid job of the desk program.
+pub const JOB_LIMIT: usize = 16384;
+
+/// How many bytes take the text of a job.
+pub const JOB_TEXT_SIZE: usize = 80;
+
+crate::assembly::entry_points! {
     /// The format of an image by its magic number: [`ELF`], [`BZIMAGE`], [`ARM64`] or [`UNKNOWN`].
     pub fn rekusoyen_kind(image: *const u8, image_len: usize) -> u32;
 
@@ -384,4 +390,12 @@ extern "C" {
         numbers: *mut u64,
         numbers_len: usize,
     );
+
+    /// Does a job of the desk program. `text` has [`JOB_TEXT_SIZE`] bytes: what that program prints, and zeros after it.
+    pub fn rekusoyen_job(
+        job: *const u8,
+        job_len: usize,
+        text: *mut u8,
+        text_len: usize,
+    ) -> u32;
 }
