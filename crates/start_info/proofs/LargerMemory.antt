@@ -11,13 +11,13 @@ use native.Mathlib.Nat.{suc-mul}
 use borrow.Author.Tests.{ltb-true}
 use lib.Dec.{eqb}
 use lib.ListN.{length, length-append}
-use Rattle.answers.specs.Keeping.{same, ShutBy, shut-by, Widens, end, stays, grows}
+use Rattle.answers.specs.Keeping.{same, ShutBy, shut-by}
 use Rattle.answers.specs.Tests.{Test}
 use Rattle.answers.specs.declared.Refusal.{Refusal}
 use Rattle.answers.specs.declared.Refusal.the-variants.{BadPart}
 use Rattle.answers.specs.declared.Gate.{Gate}
 use Rattle.answers.specs.declared.Gate.the-variants.{Open, Shut}
-use Rattle.answers.proofs.KeepingLaws.{kept, row-keeps, widens-append, widens-same}
+use Rattle.answers.proofs.KeepingLaws.{Widens, end, stays, grows, kept, row-keeps, widens-append, widens-same}
 use Rattle.fields.specs.Numbers.{le}
 use Rattle.fields.specs.Rows.{fieldWidth, rowsNumbers, rowsLength, rowLength}
 use Rattle.fields.proofs.NumbersLaws.{le-append}
