@@ -53,7 +53,7 @@ static uint32_t load(void)
         guest, sizeof guest, ranges, RANGES, format->image.bytes, format->image.size, format->number, 0, 0, 0, &kernel);
 }
 
-/* The first step, which looks at all headers and copies; the call of rekusoyen_begin before it uses less. */
+/* The first step, which looks at all headers and copies, after a call of rekusoyen_begin. */
 static uint32_t step(void)
 {
     const uint32_t answer = rekusoyen_begin(&state, format->number, 0, 0, 0);
@@ -61,6 +61,11 @@ static uint32_t step(void)
         return answer;
     return rekusoyen_step(
         guest, sizeof guest, ranges, RANGES, format->image.bytes, format->image.size, &state, 8, &stepped);
+}
+
+static uint32_t begin(void)
+{
+    return rekusoyen_begin(&state, format->number, 0, 0, 0);
 }
 
 static uint32_t make_plan(void)
@@ -113,6 +118,18 @@ static uint32_t start_block(void)
 {
     rekusoyen_start_block(page, sizeof page, 0, &start);
     return start.magic == REKUSOYEN_START_MAGIC ? 0 : REKUSOYEN_BAD_LIST;
+}
+
+static uint32_t start_modules(void)
+{
+    rekusoyen_start_modules(page, sizeof page, 56, rows, 4);
+    return rows[0] == 1 ? 0 : REKUSOYEN_BAD_LIST;
+}
+
+static uint32_t start_ranges(void)
+{
+    rekusoyen_start_ranges(page, sizeof page, 88, rows, 4);
+    return rows[0] == 1 ? 0 : REKUSOYEN_BAD_LIST;
 }
 
 static uint32_t page_read(void)
@@ -192,6 +209,7 @@ static uint32_t do_job(void)
     {"rekusoyen_load", load, REKUSOYEN_LOAD_STACK_SIZE, (format)}, \
     {"rekusoyen_plan", make_plan, REKUSOYEN_LOAD_STACK_SIZE, (format)}, \
     {"rekusoyen_part", make_part, REKUSOYEN_LOAD_STACK_SIZE, (format)}, \
+    {"rekusoyen_begin", begin, REKUSOYEN_STEP_STACK_SIZE, (format)}, \
     {"rekusoyen_step", step, REKUSOYEN_STEP_STACK_SIZE, (format)}, \
     {"rekusoyen_kind", kind, REKUSOYEN_LOAD_STACK_SIZE, (format)}, \
     {"rekusoyen_setup_header", make_header, REKUSOYEN_LOAD_STACK_SIZE, (format)}
@@ -211,6 +229,8 @@ static const struct {
     {"rekusoyen_start_write", start_write, REKUSOYEN_LOAD_STACK_SIZE, 0},
     {"rekusoyen_start_check", start_check, REKUSOYEN_LOAD_STACK_SIZE, 0},
     {"rekusoyen_start_block", start_block, REKUSOYEN_LOAD_STACK_SIZE, 0},
+    {"rekusoyen_start_modules", start_modules, REKUSOYEN_LOAD_STACK_SIZE, 0},
+    {"rekusoyen_start_ranges", start_ranges, REKUSOYEN_LOAD_STACK_SIZE, 0},
     {"rekusoyen_line_new", line_new, REKUSOYEN_LINE_STACK_SIZE, 0},
     {"rekusoyen_line_try_from", line_try_from, REKUSOYEN_LINE_STACK_SIZE, 0},
     {"rekusoyen_line_insert", line_insert, REKUSOYEN_LINE_STACK_SIZE, 0},
