@@ -217,8 +217,8 @@ static inline const char *rekusoyen_answer_sentence(uint32_t answer)
 
 /*
  * The stack that a call uses at most, without what memcpy, memmove and memset themselves use: a load of an image, its
- * plan or a part of it, a note walk, a boot page or a start block; a step of a load; a call on a line; and a job, which
- * has its guest memory there. The tests of this header measure every function (c/tests/stack.c).
+ * plan or a part of it, a note walk, a boot page or a start block; a load in steps, its begin and a step; a call on a
+ * line; and a job, which has its guest memory there. The tests of this header measure every function (c/tests/stack.c).
  */
 #define REKUSOYEN_LOAD_STACK_SIZE ((size_t)2048)
 #define REKUSOYEN_STEP_STACK_SIZE ((size_t)8192)
