@@ -1,7 +1,8 @@
 /*
  * The proved kernel loader for C and C++: ELF images with their PVH note, bzImages, arm64 Images, and the kernel
- * command line. A program includes this header and links the static library that `tools/make-library` makes; from an
- * archive that `tools/dist` makes by pkg-config, `cc program.c $(pkg-config --cflags --libs rekusoyen)`.
+ * command line. A program includes this header and links the library, static or shared, which `make -C c` builds and
+ * installs: `cc program.c $(pkg-config --cflags --libs rekusoyen)`; or it takes the library's text as one more source
+ * file, rust/assembly/rekusoyen.S.
  *
  * Answers. Every function that returns a uint32_t, but rekusoyen_kind, returns REKUSOYEN_ACCEPTED or one refusal. Its
  * comment lists its refusals in the order in which they are checked, without the prefix REKUSOYEN_: the first whose
@@ -117,6 +118,11 @@ enum rekusoyen_answer {
     /* guest memory */
     REKUSOYEN_BAD_MAP = 77,                        /* a map that is not valid: see the map of guest memory below */
 
+    /* a start block that is checked */
+    REKUSOYEN_BAD_START_MAGIC = 78,                /* the block's magic number is not 336EC578 hex */
+    REKUSOYEN_BAD_START_VERSION = 79,              /* the block's version is not 1 */
+    REKUSOYEN_BAD_START_RESERVED = 80,             /* a reserved field of the block or of a row is not 0 */
+
     /* arm64 */
     REKUSOYEN_SHORT_IMAGE = 81,                    /* an image of fewer than 64 bytes */
     REKUSOYEN_BAD_IMAGE_MAGIC = 82,                /* the magic number is not 644D5241 hex */
@@ -175,6 +181,9 @@ enum rekusoyen_answer {
     ROW(BAD_ROW, "A row of the memory map is empty, ends at 2^64 or above, or overlaps an earlier one.") \
     ROW(BAD_PART, "A part of the start block leaves guest memory or one range of its map, overlaps another, or a list has 2^32 rows or more.") \
     ROW(BAD_MAP, "A map is not good: its ranges must be 16 at most, not empty, rising, not touching, and within guest memory.") \
+    ROW(BAD_START_MAGIC, "The start block has another magic number than 336EC578 hex.") \
+    ROW(BAD_START_VERSION, "The start block has another version than 1.") \
+    ROW(BAD_START_RESERVED, "A reserved field of the start block or of a row of its lists is not 0.") \
     ROW(SHORT_IMAGE, "The image is shorter than the header of an arm64 Image.") \
     ROW(BAD_IMAGE_MAGIC, "The image has not the magic number of an arm64 Image.") \
     ROW(BIG_ENDIAN_IMAGE, "The arm64 Image is big-endian.") \
@@ -208,12 +217,13 @@ static inline const char *rekusoyen_answer_sentence(uint32_t answer)
 
 /*
  * The stack that a call uses at most, without what memcpy, memmove and memset themselves use: a load of an image, its
- * plan or a part of it, a note walk, a boot page or a start block; a step of a load; and a call on a line. The tests of
- * this header measure every function (c/tests/stack.c).
+ * plan or a part of it, a note walk, a boot page or a start block; a load in steps, its begin and a step; a call on a
+ * line; and a job, which has its guest memory there. The tests of this header measure every function (c/tests/stack.c).
  */
 #define REKUSOYEN_LOAD_STACK_SIZE ((size_t)2048)
 #define REKUSOYEN_STEP_STACK_SIZE ((size_t)8192)
 #define REKUSOYEN_LINE_STACK_SIZE ((size_t)4096)
+#define REKUSOYEN_JOB_STACK_SIZE ((size_t)262144)
 
 /* ---- guest memory */
 
@@ -704,34 +714,30 @@ uint32_t rekusoyen_start_write(
     const uint64_t *ranges, size_t ranges_len);
 
 /*
- * Checks the start block at an address, no matter who wrote it: it is valid if the block and each list that has rows
- * are within one range, magic and version are right, and every reserved field, of the rows too, is 0. It is not checked
- * whether they overlap, and no number says what is wrong.
+ * Checks the start block at an address, no matter who wrote it. ACCEPTED is answered of a valid block only: the block
+ * and each list that has rows are within one range, magic and version are right, and every reserved field, of the rows
+ * too, is 0. It is not checked whether they overlap.
  *
- *   valid  1 if the block is valid, else 0
- *
- * Refusals:
- *   SLICE_TOO_LONG  guest_len is above REKUSOYEN_LONGEST_SLICE
- *   BAD_MAP         the map is not valid
- *
- * Leaves, refused: valid as it was.
+ * Refusals, of which the first that applies is answered:
+ *   SLICE_TOO_LONG      guest_len is above REKUSOYEN_LONGEST_SLICE
+ *   BAD_MAP             the map is not valid
+ *   BAD_PART            the block is not within one range
+ *   BAD_START_MAGIC     the magic number is not REKUSOYEN_START_MAGIC
+ *   BAD_START_VERSION   the version is not 1
+ *   BAD_START_RESERVED  the block's reserved field is not 0
+ *   BAD_PART, BAD_START_RESERVED of the modules, then of the memory map: the list has rows and is not within one range;
+ *                       the reserved field of a row is not 0
  */
-uint32_t rekusoyen_raw_start_check(
-    const uint8_t *guest, size_t guest_len, const uint64_t *map, size_t map_len, uint64_t block,
-    uint64_t *valid, size_t valid_len);
-static inline uint32_t rekusoyen_start_check(
+uint32_t rekusoyen_start_check(
     const uint8_t *guest, size_t guest_len,
     const uint64_t *map, size_t map_len,
-    uint64_t block,
-    uint64_t *valid)
-{
-    return rekusoyen_raw_start_check(guest, guest_len, map, map_len, block, valid, 1);
-}
+    uint64_t block);
 
 /*
  * Read the numbers of a block, rows of modules, and rows of a memory map at an address, in the order of their fields;
- * into a list as many as it has elements. A byte past the end of guest memory is read as 0. They refuse
- * nothing and check nothing: their caller first checks the block.
+ * of rows as many numbers as the list has elements. A byte past the end of guest memory is read as 0. They check
+ * nothing: their caller first checks the block. rekusoyen_raw_start_block answers NO_ROOM, and leaves start as it was,
+ * if start_len is not REKUSOYEN_START_BLOCK_NUMBERS.
  */
 struct rekusoyen_start {
     uint64_t magic, version, flags;
@@ -740,12 +746,12 @@ struct rekusoyen_start {
     uint64_t ranges; /* how many rows the memory map has */
     uint64_t reserved;
 };
-void rekusoyen_raw_start_block(
+uint32_t rekusoyen_raw_start_block(
     const uint8_t *guest, size_t guest_len, uint64_t block, uint64_t *start, size_t start_len);
 static inline void rekusoyen_start_block(
     const uint8_t *guest, size_t guest_len, uint64_t block, struct rekusoyen_start *start)
 {
-    rekusoyen_raw_start_block(guest, guest_len, block, (uint64_t *)start, REKUSOYEN_START_BLOCK_NUMBERS);
+    (void)rekusoyen_raw_start_block(guest, guest_len, block, (uint64_t *)start, REKUSOYEN_START_BLOCK_NUMBERS);
 }
 void rekusoyen_start_modules(
     const uint8_t *guest, size_t guest_len, uint64_t modules, uint64_t *numbers, size_t numbers_len);
@@ -1048,6 +1054,26 @@ static inline uint32_t rekusoyen_line_words(
     return rekusoyen_raw_line_words(
         text, text_len, starts, starts_len, ends, ends_len, splits, splits_len, count, 1);
 }
+
+/* ---- a job of the desk program */
+
+/* The most bytes of a valid job, and the bytes for its text. */
+#define REKUSOYEN_JOB_LIMIT 16384
+#define REKUSOYEN_JOB_TEXT_SIZE 80
+
+/*
+ * Does a job: an image, with or without a line, after a table of contents. The image is loaded into 16,384 zero bytes
+ * of the call's own, the line is put at the kernel's end, and the text says what came of it.
+ *
+ *   job   the job, of any length; one that is not valid has the text `refused 70`
+ *   text  REKUSOYEN_JOB_TEXT_SIZE bytes
+ *
+ * Refusals:
+ *   NO_ROOM  text_len is not REKUSOYEN_JOB_TEXT_SIZE
+ *
+ * Leaves, accepted: in text what the desk program prints, lines that each end with a line feed, and zeros after them.
+ */
+uint32_t rekusoyen_job(const uint8_t *job, size_t job_len, uint8_t *text, size_t text_len);
 
 #ifdef __cplusplus
 }

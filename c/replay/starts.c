@@ -33,19 +33,17 @@ int answer_start_check(const struct map *map, struct bytes body)
 {
     const struct bytes guest = slice(body, 8, body.size);
     const uint64_t block = number(body, 0, 8);
-    uint64_t valid = 0, list[MOST_NUMBERS];
+    uint64_t list[MOST_NUMBERS];
     struct rekusoyen_start start;
     if (body.size < 8 || guest.size > LONGEST_GUEST)
         return 0;
-    const uint32_t answer = rekusoyen_start_check(guest.at, guest.size, map->numbers, map->count, block, &valid);
+    const uint32_t answer = rekusoyen_start_check(guest.at, guest.size, map->numbers, map->count, block);
     say("start");
     if (answer != REKUSOYEN_ACCEPTED) {
         say_answer(answer);
         return 1;
     }
-    say(valid ? " accepted" : " not accepted");
-    if (!valid)
-        return 1;
+    say(" accepted");
     rekusoyen_start_block(guest.at, guest.size, block, &start);
     say_numbers(
         (const uint64_t[]){

@@ -49,6 +49,19 @@ struct image small_elf(void)
     return elf_image(16, &header, 1, "\xaa\xbb\xcc", 3);
 }
 
+struct image job_of(const struct image *image, const char *line)
+{
+    struct image job = {.size = line != NULL ? 28 : 16};
+    const uint64_t size = line != NULL ? strlen(line) : 0;
+    const uint64_t table[] = {line != NULL ? 2 : 1, 1, job.size, image->size, 3, job.size + image->size, size};
+    for (size_t i = 0; i < job.size / 4; i++)
+        put_number(&job, 4 * i, 4, table[i]);
+    append(&job, image->bytes, image->size);
+    if (line != NULL)
+        append(&job, line, size);
+    return job;
+}
+
 static void append_filled_up(struct image *image, const char *bytes, uint32_t size)
 {
     append(image, bytes, size);

@@ -40,6 +40,9 @@ struct image elf_image(uint64_t entry, const struct program_header *headers, siz
 /* The smallest one that loads something: AA BB CC hex to address 16, in a segment of 8 bytes. */
 struct image small_elf(void);
 
+/* A job of the desk program: this image, and if it is not NULL this line. */
+struct image job_of(const struct image *image, const char *line);
+
 /* Puts the 12 bytes of a note's header, and its name and descriptor, each filled up to a multiple of 4. */
 enum { NOTE_HEADER_SIZE = 12, PVH_NOTE_TYPE = 18 };
 

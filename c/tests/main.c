@@ -27,6 +27,7 @@ int main(int count, char **words)
     test_steps();
     test_plans();
     test_line_words();
+    test_jobs();
     test_long_slices();
     test_empty_slices();
     check_all_reached();

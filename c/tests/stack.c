@@ -32,6 +32,8 @@ static struct rekusoyen_start start;
 static const uint8_t text[] = "text";
 static const size_t ends[] = {2, 4};
 static uint8_t quotes[REKUSOYEN_LINE_LIMIT];
+static struct image job;
+static uint8_t job_text[REKUSOYEN_JOB_TEXT_SIZE];
 static uint64_t word_starts[1], word_ends[1], word_splits[1];
 
 /* As many ranges as a map has; all that is loaded goes to the second. */
@@ -51,7 +53,7 @@ static uint32_t load(void)
         guest, sizeof guest, ranges, RANGES, format->image.bytes, format->image.size, format->number, 0, 0, 0, &kernel);
 }
 
-/* The first step, which looks at all headers and copies; the call of rekusoyen_begin before it uses less. */
+/* The first step, which looks at all headers and copies, after a call of rekusoyen_begin. */
 static uint32_t step(void)
 {
     const uint32_t answer = rekusoyen_begin(&state, format->number, 0, 0, 0);
@@ -59,6 +61,11 @@ static uint32_t step(void)
         return answer;
     return rekusoyen_step(
         guest, sizeof guest, ranges, RANGES, format->image.bytes, format->image.size, &state, 8, &stepped);
+}
+
+static uint32_t begin(void)
+{
+    return rekusoyen_begin(&state, format->number, 0, 0, 0);
 }
 
 static uint32_t make_plan(void)
@@ -104,13 +111,25 @@ static uint32_t start_write(void)
 static uint32_t start_check(void)
 {
     static const uint64_t map[] = {0, sizeof page};
-    return rekusoyen_start_check(page, sizeof page, map, 2, 0, &number);
+    return rekusoyen_start_check(page, sizeof page, map, 2, 0);
 }
 
 static uint32_t start_block(void)
 {
     rekusoyen_start_block(page, sizeof page, 0, &start);
     return start.magic == REKUSOYEN_START_MAGIC ? 0 : REKUSOYEN_BAD_LIST;
+}
+
+static uint32_t start_modules(void)
+{
+    rekusoyen_start_modules(page, sizeof page, 56, rows, 4);
+    return rows[0] == 1 ? 0 : REKUSOYEN_BAD_LIST;
+}
+
+static uint32_t start_ranges(void)
+{
+    rekusoyen_start_ranges(page, sizeof page, 88, rows, 4);
+    return rows[0] == 1 ? 0 : REKUSOYEN_BAD_LIST;
 }
 
 static uint32_t page_read(void)
@@ -180,11 +199,17 @@ static uint32_t line_words(void)
     return rekusoyen_line_words(quotes, sizeof quotes, word_starts, 1, word_ends, 1, word_splits, 1, &number);
 }
 
+static uint32_t do_job(void)
+{
+    return rekusoyen_job(job.bytes, job.size, job_text, sizeof job_text);
+}
+
 /* Every function, in an order in which each call is accepted; those of a load in every format. */
 #define OF_FORMAT(format) \
     {"rekusoyen_load", load, REKUSOYEN_LOAD_STACK_SIZE, (format)}, \
     {"rekusoyen_plan", make_plan, REKUSOYEN_LOAD_STACK_SIZE, (format)}, \
     {"rekusoyen_part", make_part, REKUSOYEN_LOAD_STACK_SIZE, (format)}, \
+    {"rekusoyen_begin", begin, REKUSOYEN_STEP_STACK_SIZE, (format)}, \
     {"rekusoyen_step", step, REKUSOYEN_STEP_STACK_SIZE, (format)}, \
     {"rekusoyen_kind", kind, REKUSOYEN_LOAD_STACK_SIZE, (format)}, \
     {"rekusoyen_setup_header", make_header, REKUSOYEN_LOAD_STACK_SIZE, (format)}
@@ -204,6 +229,8 @@ static const struct {
     {"rekusoyen_start_write", start_write, REKUSOYEN_LOAD_STACK_SIZE, 0},
     {"rekusoyen_start_check", start_check, REKUSOYEN_LOAD_STACK_SIZE, 0},
     {"rekusoyen_start_block", start_block, REKUSOYEN_LOAD_STACK_SIZE, 0},
+    {"rekusoyen_start_modules", start_modules, REKUSOYEN_LOAD_STACK_SIZE, 0},
+    {"rekusoyen_start_ranges", start_ranges, REKUSOYEN_LOAD_STACK_SIZE, 0},
     {"rekusoyen_line_new", line_new, REKUSOYEN_LINE_STACK_SIZE, 0},
     {"rekusoyen_line_try_from", line_try_from, REKUSOYEN_LINE_STACK_SIZE, 0},
     {"rekusoyen_line_insert", line_insert, REKUSOYEN_LINE_STACK_SIZE, 0},
@@ -216,12 +243,19 @@ static const struct {
     {"rekusoyen_line_load", line_load, REKUSOYEN_LINE_STACK_SIZE, 0},
     {"rekusoyen_line_plan", line_plan, REKUSOYEN_LINE_STACK_SIZE, 0},
     {"rekusoyen_line_words", line_words, REKUSOYEN_LINE_STACK_SIZE, 0},
+    {"rekusoyen_job", do_job, REKUSOYEN_JOB_STACK_SIZE, 0}, /* the last: it needs a larger stack */
 };
 
 #define CALLS (sizeof calls / sizeof calls[0])
 
 static uint32_t answers[CALLS];
 static size_t used[CALLS];
+
+/* The calls that are measured on one stack, and that stack. */
+struct calls {
+    size_t first, end;
+    void *stack;
+};
 
 /* Fills the stack from its bottom up to this frame, which is at the place of that of a call. */
 static __attribute__((noinline)) void fill(volatile uint8_t *bottom)
@@ -232,10 +266,11 @@ static __attribute__((noinline)) void fill(volatile uint8_t *bottom)
 }
 
 /* Makes each call with the stack below this frame filled, and looks how far down it was changed. */
-static void *measure(void *stack)
+static void *measure(void *data)
 {
-    volatile uint8_t *bottom = stack, *top = __builtin_frame_address(0);
-    for (size_t i = 0; i < CALLS; i++) {
+    const struct calls *const these = data;
+    volatile uint8_t *bottom = these->stack, *top = __builtin_frame_address(0);
+    for (size_t i = these->first; i < these->end; i++) {
         format = &formats[calls[i].format];
         fill(bottom);
         answers[i] = calls[i].make();
@@ -247,25 +282,20 @@ static void *measure(void *stack)
     return NULL;
 }
 
-void test_stack(void)
+/* Measures calls on a thread with a stack of this size, or the smallest one that the system allows. */
+static void measure_on(size_t size, size_t first, size_t end)
 {
-    void *stack = NULL;
+    struct calls these = {first, end, NULL};
     pthread_attr_t attributes;
     pthread_t thread;
-    formats[0].name = "";
-    for (EACH_FORMAT(which))
-        formats[which] = format_of(which);
-    memset(quotes, '"', sizeof quotes);
-    for (size_t i = 0; i < REKUSOYEN_PAGE_READ_ROWS; i++)
-        rows[i] = i % 3 == 0 ? i : 1;
     const long least = sysconf(_SC_THREAD_STACK_MIN);
-    const size_t size = least > (long)SMALL_STACK ? (size_t)least : SMALL_STACK;
-    const int started = posix_memalign(&stack, 65536, size) == 0 && pthread_attr_init(&attributes) == 0 &&
-                        pthread_attr_setstack(&attributes, stack, size) == 0 &&
-                        pthread_create(&thread, &attributes, measure, stack) == 0 && pthread_join(thread, NULL) == 0;
+    size = least > (long)size ? (size_t)least : size;
+    const int started = posix_memalign(&these.stack, 65536, size) == 0 && pthread_attr_init(&attributes) == 0 &&
+                        pthread_attr_setstack(&attributes, these.stack, size) == 0 &&
+                        pthread_create(&thread, &attributes, measure, &these) == 0 && pthread_join(thread, NULL) == 0;
     CHECK(started, "a thread with a stack of its own ran");
     size_t most = 0;
-    for (size_t i = 0; started && i < CALLS; i++) {
+    for (size_t i = first; started && i < end; i++) {
         CHECK_ANSWER(calls[i].name, answers[i], REKUSOYEN_ACCEPTED);
         CHECK(used[i] <= calls[i].limit, "%s used %zu bytes of stack", calls[i].name, used[i]);
         if (getenv("REKUSOYEN_TELL_STACK"))
@@ -273,5 +303,19 @@ void test_stack(void)
         most = used[i] > most ? used[i] : most;
     }
     printf("c: on a thread of %zu bytes, a call used up to %zu bytes of stack\n", size, most);
-    free(stack);
+    free(these.stack);
+}
+
+void test_stack(void)
+{
+    formats[0].name = "";
+    for (EACH_FORMAT(which))
+        formats[which] = format_of(which);
+    memset(quotes, '"', sizeof quotes);
+    for (size_t i = 0; i < REKUSOYEN_PAGE_READ_ROWS; i++)
+        rows[i] = i % 3 == 0 ? i : 1;
+    const struct image image = small_elf();
+    job = job_of(&image, "quiet");
+    measure_on(SMALL_STACK, 0, CALLS - 1);
+    measure_on(2 * REKUSOYEN_JOB_STACK_SIZE, CALLS - 1, CALLS);
 }

@@ -54,12 +54,10 @@ static const size_t block_widths[] = {4, 4, 4, 4, 8, 8, 8, 8, 4, 4}, module_widt
 static void check_back(
     const char *what, const struct lent *guest, const struct write *w, const struct rekusoyen_start *block)
 {
-    struct lent out = lend_list(1), numbers = lend_list(REKUSOYEN_START_BLOCK_NUMBERS);
+    struct lent numbers = lend_list(REKUSOYEN_START_BLOCK_NUMBERS);
     struct lent modules = lend_list(w->modules_len), ranges = lend_list(w->ranges_len);
-    const uint64_t yes = 1;
-    uint32_t answer = rekusoyen_start_check(guest->bytes, guest->size, whole, 2, w->block, numbers_of(&out));
-    CHECK_ANSWER(what, answer, REKUSOYEN_ACCEPTED);
-    CHECK_LEFT(what, &out, &yes);
+    CHECK_ANSWER(
+        what, rekusoyen_start_check(guest->bytes, guest->size, whole, 2, w->block), REKUSOYEN_ACCEPTED);
     rekusoyen_start_block(guest->bytes, guest->size, w->block, (void *)numbers.bytes);
     CHECK_LEFT(what, &numbers, block);
     rekusoyen_start_modules(guest->bytes, guest->size, w->modules_at, numbers_of(&modules), w->modules_len);
@@ -98,6 +96,21 @@ static void check_write(const struct write *w)
     CHECK_LEFT(w->what, &guest, expected);
 }
 
+/* What is answered of a valid block, if this byte is another. */
+static uint32_t answer_of(size_t place)
+{
+    if (place < 4)
+        return REKUSOYEN_BAD_START_MAGIC;
+    if (place < 8)
+        return REKUSOYEN_BAD_START_VERSION;
+    if ((place >= 52 && place < 56) || (place >= 80 && place < 88) || (place >= 108 && place < 112))
+        return REKUSOYEN_BAD_START_RESERVED;
+    /* more rows than there is memory, or an address past it */
+    if ((place >= 12 && place < 24) || (place >= 40 && place < 52))
+        return REKUSOYEN_BAD_PART;
+    return REKUSOYEN_ACCEPTED;
+}
+
 /* A good block of one module and one row, of which one byte is another. */
 static void check_bytes(void)
 {
@@ -107,16 +120,11 @@ static void check_bytes(void)
     put(good, 56, one, module_widths, 4);
     put(good, 88, one, range_widths, 4);
     for (size_t place = 0; place < GUEST; place++) {
-        const int fixed = place < 8 || (place >= 52 && place < 56) || (place >= 80 && place < 88) || (place >= 108 && place < 112);
-        /* more rows than there is memory, or an address past it */
-        const int far = (place >= 12 && place < 24) || (place >= 40 && place < 52);
-        struct lent guest = lend_bytes(good, GUEST), out = lend_list(1);
+        struct lent guest = lend_bytes(good, GUEST);
         guest.bytes[place] ^= 0x80;
-        const uint64_t accepted = !fixed && !far;
-        uint32_t answer = rekusoyen_start_check(guest.bytes, guest.size, whole, 2, 0, numbers_of(&out));
-        CHECK_ANSWER("one byte", answer, REKUSOYEN_ACCEPTED);
+        uint32_t answer = rekusoyen_start_check(guest.bytes, guest.size, whole, 2, 0);
+        CHECK_ANSWER("one byte", answer, answer_of(place));
         CHECK_LEFT("one byte", &guest, guest.bytes);
-        CHECK_LEFT("one byte", &out, &accepted);
     }
 }
 
@@ -124,22 +132,29 @@ static void check_bytes(void)
 static void check_lent(void)
 {
     const uint64_t bad[] = {0, GUEST + 1};
-    struct lent guest = lend_filled(GUEST), out = lend_list(2);
-    for (size_t length = 0; length <= 2; length++)
-        if (length != 1)
-            CHECK_ANSWER(
-                "no room", rekusoyen_raw_start_check(guest.bytes, guest.size, bad, 2, 0, numbers_of(&out), length),
-                REKUSOYEN_NO_ROOM);
-    CHECK_ANSWER(
-        "bad map", rekusoyen_start_check(guest.bytes, guest.size, bad, 2, 0, numbers_of(&out)), REKUSOYEN_BAD_MAP);
+    struct lent guest = lend_filled(GUEST);
+    CHECK_ANSWER("bad map", rekusoyen_start_check(guest.bytes, guest.size, bad, 2, 0), REKUSOYEN_BAD_MAP);
+    CHECK_ANSWER("outside", rekusoyen_start_check(guest.bytes, guest.size, whole, 2, GUEST - 55), REKUSOYEN_BAD_PART);
     CHECK_ANSWER(
         "bad map", rekusoyen_start_write(guest.bytes, guest.size, bad, 2, TOP, 0, 0, 0, 0, 0, one, 3, one, 4), REKUSOYEN_BAD_MAP);
     CHECK_ANSWER(
         "bad list", rekusoyen_start_write(guest.bytes, guest.size, whole, 2, TOP, 0, 0, 0, 0, 0, one, 3, one, 4), REKUSOYEN_BAD_LIST);
     CHECK_ANSWER(
         "bad part", rekusoyen_start_write(guest.bytes, guest.size, whole, 2, TOP, 0, 0, 0, 0, 0, one, 4, one, 4), REKUSOYEN_BAD_PART);
-    CHECK_KEPT("refused", &out);
     CHECK_KEPT("refused", &guest);
+}
+
+/* The numbers of a block go into a list of ten, and into no other. */
+static void check_sizes(void)
+{
+    struct lent guest = lend_filled(GUEST), numbers = lend_list(REKUSOYEN_START_BLOCK_NUMBERS + 2);
+    for (size_t length = 0; length <= REKUSOYEN_START_BLOCK_NUMBERS + 2; length++)
+        if (length != REKUSOYEN_START_BLOCK_NUMBERS)
+            CHECK_ANSWER(
+                "ten numbers", rekusoyen_raw_start_block(guest.bytes, guest.size, 0, numbers_of(&numbers), length),
+                REKUSOYEN_NO_ROOM);
+    CHECK_KEPT("ten numbers", &numbers);
+    CHECK_KEPT("ten numbers", &guest);
 }
 
 /* Past the end of guest memory every number is 0. */
@@ -158,5 +173,6 @@ void test_starts(void)
         check_write(&writes[i]);
     check_bytes();
     check_lent();
+    check_sizes();
     check_past();
 }

@@ -87,7 +87,13 @@ pub const START_BLOCK_NUMBERS: usize = 10;
 /// How many numbers a row of either of its lists has.
 pub const START_ROW_NUMBERS: usize = 4;
 
-extern "C" {
+/// The most bytes of a valid job of the desk program.
+pub const JOB_LIMIT: usize = 16384;
+
+/// How many bytes take the text of a job.
+pub const JOB_TEXT_SIZE: usize = 80;
+
+crate::assembly::entry_points! {
     /// The format of an image by its magic number: [`ELF`], [`BZIMAGE`], [`ARM64`] or [`UNKNOWN`].
     pub fn rekusoyen_kind(image: *const u8, image_len: usize) -> u32;
 
@@ -349,27 +355,25 @@ extern "C" {
         ranges_len: usize,
     ) -> u32;
 
-    /// Checks the start block at an address; `out` has one number, 1 if it is accepted and else 0.
-    pub fn rekusoyen_raw_start_check(
+    /// Checks the start block at an address: 0 if it is accepted, else the number of what is wrong first.
+    pub fn rekusoyen_start_check(
         guest: *const u8,
         guest_len: usize,
         map: *const u64,
         map_len: usize,
         block: u64,
-        out: *mut u64,
-        out_len: usize,
     ) -> u32;
 
-    /// Reads the ten numbers of a start block, as many as the list takes; a byte past the end of guest memory is read as 0.
+    /// Reads the ten numbers of a start block into a list of ten; a byte past the end of guest memory is read as 0.
     pub fn rekusoyen_raw_start_block(
         guest: *const u8,
         guest_len: usize,
         block: u64,
         numbers: *mut u64,
         numbers_len: usize,
-    );
+    ) -> u32;
 
-    /// Reads rows of modules in the same way, four numbers each.
+    /// Reads rows of modules, four numbers each, as many numbers as the list takes.
     pub fn rekusoyen_start_modules(
         guest: *const u8,
         guest_len: usize,
@@ -386,4 +390,12 @@ extern "C" {
         numbers: *mut u64,
         numbers_len: usize,
     );
+
+    /// Does a job of the desk program. `text` has [`JOB_TEXT_SIZE`] bytes: what that program prints, and zeros after it.
+    pub fn rekusoyen_job(
+        job: *const u8,
+        job_len: usize,
+        text: *mut u8,
+        text_len: usize,
+    ) -> u32;
 }

@@ -43,11 +43,11 @@
 //! at most 2^40 bytes, and guest memory at most 16 ranges apart from each other.
 
 #![warn(missing_docs)]
-
-#[cfg(not(all(target_endian = "little", target_pointer_width = "64")))]
-compile_error!("the proved library is compiled for little-endian processors of 64 bits");
+// `rekusoyen_library` is set by the build script; older compilers do not know this lint
+#![allow(unknown_lints, unexpected_cfgs)]
 
 mod address;
+mod assembly;
 pub mod boot_page;
 pub mod cmdline;
 #[cfg(feature = "vm-memory")]

@@ -119,6 +119,12 @@ refusals! {
     BadPart = 76,
     /// A map is not good: its ranges must be 16 at most, not empty, rising, not touching, and within guest memory.
     BadMap = 77,
+    /// The start block has another magic number than 336EC578 hex.
+    BadStartMagic = 78,
+    /// The start block has another version than 1.
+    BadStartVersion = 79,
+    /// A reserved field of the start block or of a row of its lists is not 0.
+    BadStartReserved = 80,
     /// The image is shorter than the header of an arm64 Image.
     ShortImage = 81,
     /// The image has not the magic number of an arm64 Image.

@@ -20,9 +20,9 @@ pub struct Start {
     /// The block's flags.
     pub flags: u32,
     /// The guest address of the command line, and 0 without one.
-    pub command_line: u64,
+    pub command_line: GuestAddress,
     /// The guest address of the RSDP, and 0 without one.
-    pub rsdp: u64,
+    pub rsdp: GuestAddress,
 }
 
 /// An accepted block, and the rows that it names.
@@ -51,16 +51,16 @@ pub struct Found {
 /// let start = Start {
 ///     block: GuestAddress(8),
 ///     memory_map: GuestAddress(64),
-///     command_line: 0x20000,
+///     command_line: GuestAddress(0x20000),
 ///     ..Default::default()
 /// };
 /// let ram = hvm_memmap_table_entry { addr: 0, size: 0x9fc00, type_: 1, reserved: 0 };
 /// write(&mut guest, &map, start, &[], &[ram])?;
 ///
-/// let found = check(&guest, &map, GuestAddress(8))?.expect("what is written is accepted");
+/// let found = check(&guest, &map, GuestAddress(8))?;
 /// assert_eq!(found.block.cmdline_paddr, 0x20000);
 /// assert_eq!(found.memory_map, [ram]);
-/// assert_eq!(check(&guest, &map, GuestAddress(9)), Ok(None));
+/// assert_eq!(check(&guest, &map, GuestAddress(9)), Err(Refusal::BadStartMagic));
 ///
 /// // the block would lie over the memory map
 /// let over = Start { block: GuestAddress(9), ..start };
@@ -89,19 +89,21 @@ pub(crate) fn write_numbers(
 ) -> Result<(), Refusal> {
     answered(call!(rekusoyen_start_write(
         mut guest, in map.numbers(), start.block.0, start.modules.0, start.memory_map.0, start.flags,
-        start.command_line, start.rsdp, in modules, in ranges
+        start.command_line.0, start.rsdp.0, in modules, in ranges
     )))
 }
 
-/// Checks the block at an address, whoever wrote it, and reads it with its lists; `None` says that it is not accepted.
+/// Checks the block at an address, no matter who wrote it, and reads it with its lists.
 ///
-/// A block is accepted where it and both lists lie in guest memory, each within one range of the map, magic number and version are right, and every
-/// reserved field, the rows' too, is 0. That parts overlap is not asked. Refusals: [`BadMap`](Refusal::BadMap), and
-/// [`SliceTooLong`](Refusal::SliceTooLong).
-pub fn check(guest: &[u8], map: &Map, block: GuestAddress) -> Result<Option<Found>, Refusal> {
-    let mut out = [0];
-    answered(call!(rekusoyen_raw_start_check(in guest, in map.numbers(), block.0, mut &mut out)))?;
-    Ok((out == [1]).then(|| found(guest, block)))
+/// A block is accepted if it and both lists lie in guest memory, each within one range of the map, magic number and
+/// version are right, and every reserved field, the rows' too, is 0. It is not checked whether parts overlap. Else what
+/// is wrong first is returned: [`SliceTooLong`](Refusal::SliceTooLong) and [`BadMap`](Refusal::BadMap); of the block
+/// [`BadPart`](Refusal::BadPart), [`BadStartMagic`](Refusal::BadStartMagic),
+/// [`BadStartVersion`](Refusal::BadStartVersion) and [`BadStartReserved`](Refusal::BadStartReserved); of the modules,
+/// then of the memory map `BadPart` and `BadStartReserved`.
+pub fn check(guest: &[u8], map: &Map, block: GuestAddress) -> Result<Found, Refusal> {
+    answered(call!(rekusoyen_start_check(in guest, in map.numbers(), block.0)))?;
+    Ok(found(guest, block))
 }
 
 /// What an accepted block says. Its lists lie in guest memory.
@@ -120,7 +122,8 @@ fn found(guest: &[u8], block: GuestAddress) -> Found {
 /// The numbers of a block.
 pub(crate) fn block_numbers(guest: &[u8], block: u64) -> [u64; START_BLOCK_NUMBERS] {
     let mut numbers = [0; START_BLOCK_NUMBERS];
-    call!(rekusoyen_raw_start_block(in guest, block, mut &mut numbers));
+    let answer = call!(rekusoyen_raw_start_block(in guest, block, mut &mut numbers));
+    debug_assert_eq!(answer, 0);
     numbers
 }
 

@@ -102,6 +102,8 @@ fn sizes_flags_and_codes_are_those_of_the_header() {
         ("PAGE_NUMBERS", entry::PAGE_NUMBERS),
         ("START_BLOCK_NUMBERS", entry::START_BLOCK_NUMBERS),
         ("START_ROW_NUMBERS", entry::START_ROW_NUMBERS),
+        ("JOB_LIMIT", entry::JOB_LIMIT),
+        ("JOB_TEXT_SIZE", entry::JOB_TEXT_SIZE),
     ];
     for (name, number) in numbers {
         let name = format!("REKUSOYEN_{name}");

@@ -55,7 +55,21 @@ fn of_starts() -> Reached {
         let answer = start_info::write(&mut [], &Map::default(), Start::default(), &[], &[row]);
         answer.err().map(Refusal::number)
     };
-    vec![(Refusal::BadPart, write(0)), (Refusal::BadList, write(1))]
+    let check = |place: usize| {
+        let mut guest = [0; 56];
+        let (map, at) = (Map::whole(guest.len()), GuestAddress(0));
+        start_info::write(&mut guest, &map, Start::default(), &[], &[]).expect("a block");
+        guest[place] ^= 1;
+        let answer = start_info::check(&guest, &map, at);
+        answer.err().map(Refusal::number)
+    };
+    vec![
+        (Refusal::BadPart, write(0)),
+        (Refusal::BadList, write(1)),
+        (Refusal::BadStartMagic, check(0)),
+        (Refusal::BadStartVersion, check(4)),
+        (Refusal::BadStartReserved, check(52)),
+    ]
 }
 
 fn of_pages() -> Reached {

@@ -14,8 +14,8 @@ const START: Start = Start {
     modules: GuestAddress(60),
     memory_map: GuestAddress(130),
     flags: 0x8000_0001,
-    command_line: 0xf1f2_f3f4_f5f6_f7f8,
-    rsdp: 0xe0000,
+    command_line: GuestAddress(0xf1f2_f3f4_f5f6_f7f8),
+    rsdp: GuestAddress(0xe0000),
 };
 
 fn module(paddr: u64) -> hvm_modlist_entry {
@@ -58,8 +58,8 @@ fn what_is_written_is_the_structs_and_reads_back() {
         (0x8000_0001, 4),
         (2, 4),
         (60, 8),
-        (START.command_line, 8),
-        (START.rsdp, 8),
+        (START.command_line.0, 8),
+        (START.rsdp.0, 8),
         (130, 8),
         (2, 4),
         (0, 4),
@@ -81,8 +81,8 @@ fn what_is_written_is_the_structs_and_reads_back() {
         flags: START.flags,
         nr_modules: 2,
         modlist_paddr: 60,
-        cmdline_paddr: START.command_line,
-        rsdp_paddr: START.rsdp,
+        cmdline_paddr: START.command_line.0,
+        rsdp_paddr: START.rsdp.0,
         memmap_paddr: 130,
         memmap_entries: 2,
         reserved: 0,
@@ -90,11 +90,11 @@ fn what_is_written_is_the_structs_and_reads_back() {
     let (modules, memory_map) = (modules.to_vec(), memory_map.to_vec());
     assert_eq!(
         found,
-        Some(Found {
+        Found {
             block,
             modules,
             memory_map
-        })
+        }
     );
 }
 
@@ -145,16 +145,29 @@ fn any_block_is_checked_as_it_stands() {
     let reserved = (3 + 52..3 + 56)
         .chain(60 + 24..60 + 32)
         .chain(130 + 20..130 + 24);
-    for place in (3..11).chain(reserved) {
+    let changes = (3..7)
+        .map(|place| (place, Refusal::BadStartMagic))
+        .chain((7..11).map(|place| (place, Refusal::BadStartVersion)))
+        .chain(reserved.map(|place| (place, Refusal::BadStartReserved)))
+        // the address of the modules, then of the memory map
+        .chain([(3 + 20, Refusal::BadPart), (3 + 44, Refusal::BadPart)]);
+    for (place, refusal) in changes {
         let mut spoilt = guest.clone();
         spoilt[place] ^= 0x40;
-        assert_eq!(check(&spoilt, &map, START.block), Ok(None), "{place}");
+        assert_eq!(check(&spoilt, &map, START.block), Err(refusal), "{place}");
     }
+    // of several the first
+    let mut spoilt = guest.clone();
+    spoilt[3..11].fill(0);
+    let magic = check(&spoilt, &map, START.block);
+    assert_eq!(magic, Err(Refusal::BadStartMagic));
+    let outside = check(&spoilt, &map, GuestAddress(145));
+    assert_eq!(outside, Err(Refusal::BadPart));
     // another flag, and lists that overlap
     guest[11] ^= 1;
     guest[3 + 40] = 60;
     guest[60 + 20..60 + 24].fill(0);
-    assert!(check(&guest, &map, START.block).unwrap().is_some());
+    assert!(check(&guest, &map, START.block).is_ok());
     let bad = Map::whole(201);
     assert_eq!(check(&guest, &bad, START.block), Err(Refusal::BadMap));
 }

@@ -129,13 +129,13 @@ fn answer_start(write: &StartWrite) -> Answer {
     Answer::StartWrite { outcome, guest }
 }
 
-fn answer_check(check: &StartCheck) -> Result<Option<StartFound>, u8> {
+fn answer_check(check: &StartCheck) -> Result<StartFound, u8> {
     let found = start::check(&check.guest, &check.map, check.block).map_err(Refusal::number)?;
-    Ok(found.map(|found| StartFound {
+    Ok(StartFound {
         block: found.block,
         modules: found.modules,
         ranges: found.ranges,
-    }))
+    })
 }
 
 fn answer_words(asked: &Words) -> Answer {

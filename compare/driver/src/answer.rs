@@ -108,8 +108,7 @@ pub enum Answer {
         outcome: Result<(), u8>,
         guest: Vec<u8>,
     },
-    /// A block that is not accepted has no number.
-    StartCheck(Result<Option<StartFound>, u8>),
+    StartCheck(Result<StartFound, u8>),
     Steps(StepsTold),
     Arm64 {
         outcome: Result<Arm64Loaded, u8>,
@@ -220,7 +219,7 @@ impl Answer {
                 }
                 put_guest(&mut line, before, guest);
             }
-            Answer::StartCheck(Ok(Some(found))) => {
+            Answer::StartCheck(Ok(found)) => {
                 line += "start accepted";
                 put_numbers(&mut line, &found.block);
                 for (name, list) in [("modules", &found.modules), ("ranges", &found.ranges)] {
@@ -228,7 +227,6 @@ impl Answer {
                     put_numbers(&mut line, &list[..list.len().min(NUMBERS_TOLD)]);
                 }
             }
-            Answer::StartCheck(Ok(None)) => line += "start not accepted",
             Answer::StartCheck(Err(number)) => line += &format!("start refused {number}"),
             Answer::Job { text, .. } => line += &format!("job {text:?}"),
         }

@@ -817,7 +817,7 @@ fn starts() -> Vec<Case> {
     };
     let refused = "start refused 76, nothing changed";
     let spoilt = "start refused 61, nothing changed";
-    let no = "start not accepted";
+    let outside = "start refused 76";
     let far = u64::MAX;
     vec![
         written([0, 56, 88], &ONE, &ONE, "start ok, 0 to 104 changed"),
@@ -857,20 +857,20 @@ fn starts() -> Vec<Case> {
             0,
             "start accepted 862897528 1 0 0 64 0 0 96 1 0 modules ranges 0 0 0 0",
         ),
-        checked(7, 2, 0, no),
-        checked(65, 2, 0, no),
-        checked(far, 2, 0, no),
-        checked(8, 0, MAGIC + 1, no),
-        checked(8, 1, 0, no),
-        checked(8, 1, 2, no),
-        checked(8, 9, 1, no),
-        checked(8, 4, 89, no),
-        checked(8, 7, 97, no),
+        checked(7, 2, 0, "start refused 78"),
+        checked(65, 2, 0, outside),
+        checked(far, 2, 0, outside),
+        checked(8, 0, MAGIC + 1, "start refused 78"),
+        checked(8, 1, 0, "start refused 79"),
+        checked(8, 1, 2, "start refused 79"),
+        checked(8, 9, 1, "start refused 80"),
+        checked(8, 4, 89, outside),
+        checked(8, 7, 97, outside),
         // 32 times this is 2^32, 24 times that 3 times 2^32
-        checked(8, 3, 1 << 27, no),
-        checked(8, 8, 1 << 29, no),
+        checked(8, 3, 1 << 27, outside),
+        checked(8, 8, 1 << 29, outside),
         // the list of modules lies over the block, whose map count stands in its reserved field
-        checked(8, 4, 32, no),
+        checked(8, 4, 32, "start refused 80"),
     ]
 }
 

@@ -213,7 +213,7 @@ mod tests {
             .chain(31..=32)
             .chain(41..=51)
             .chain(61..=64)
-            .chain(71..=77)
+            .chain(71..=80)
             .chain(81..=88)
             .collect();
         assert_eq!(numbers, wanted);

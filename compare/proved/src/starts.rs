@@ -18,24 +18,19 @@ pub fn write(write: &StartWrite) -> Answer {
 
 pub fn check(check: &StartCheck) -> Answer {
     let guest = &check.guest[..];
-    let mut out = [7];
-    let number = call!(rekusoyen_raw_start_check(
-        in guest, in &check.map, check.block, mut &mut out
-    ));
+    let number = call!(rekusoyen_start_check(in guest, in &check.map, check.block));
     let told = outcome(number, || {
-        (out[0] == 1).then(|| {
-            let mut block = vec![7; entry::START_BLOCK_NUMBERS];
-            call!(rekusoyen_raw_start_block(in guest, check.block, mut &mut block));
-            let mut modules = vec![7; 4 * block[3] as usize];
-            call!(rekusoyen_start_modules(in guest, block[4], mut &mut modules));
-            let mut ranges = vec![7; 4 * block[8] as usize];
-            call!(rekusoyen_start_ranges(in guest, block[7], mut &mut ranges));
-            StartFound {
-                block,
-                modules,
-                ranges,
-            }
-        })
+        let mut block = vec![7; entry::START_BLOCK_NUMBERS];
+        call!(rekusoyen_raw_start_block(in guest, check.block, mut &mut block));
+        let mut modules = vec![7; 4 * block[3] as usize];
+        call!(rekusoyen_start_modules(in guest, block[4], mut &mut modules));
+        let mut ranges = vec![7; 4 * block[8] as usize];
+        call!(rekusoyen_start_ranges(in guest, block[7], mut &mut ranges));
+        StartFound {
+            block,
+            modules,
+            ranges,
+        }
     });
     Answer::StartCheck(told)
 }

@@ -85,22 +85,24 @@ pub fn write(
     Ok(())
 }
 
-/// Checks the block at an address, whoever wrote it; `None` says that it is not accepted.
-pub fn check(guest: &[u8], map: &[u64], block: u64) -> Result<Option<Found>, Refusal> {
+/// Checks the block at an address, no matter who wrote it.
+pub fn check(guest: &[u8], map: &[u64], at: u64) -> Result<Found, Refusal> {
     within_limit(guest.len())?;
     let map = Map::from_numbers(map, guest.len())?;
-    Ok(accepted(guest, &map, block))
-}
-
-fn accepted(guest: &[u8], map: &Map, at: u64) -> Option<Found> {
-    let place = map.room(at, BLOCK.iter().sum::<usize>() as u64)?;
-    let block = numbers_of(&BLOCK, &guest[place]);
-    if block[0] != MAGIC || block[1] != VERSION || block[9] != 0 {
-        return None;
+    let place = map.room(at, BLOCK.iter().sum::<usize>() as u64);
+    let block = numbers_of(&BLOCK, &guest[place.ok_or(Refusal::BadPart)?]);
+    if block[0] != MAGIC {
+        return Err(Refusal::BadStartMagic);
     }
-    let modules = list(guest, map, &MODULE, block[4], block[3])?;
-    let ranges = list(guest, map, &RANGE, block[7], block[8])?;
-    Some(Found {
+    if block[1] != VERSION {
+        return Err(Refusal::BadStartVersion);
+    }
+    if block[9] != 0 {
+        return Err(Refusal::BadStartReserved);
+    }
+    let modules = list(guest, &map, &MODULE, block[4], block[3])?;
+    let ranges = list(guest, &map, &RANGE, block[7], block[8])?;
+    Ok(Found {
         block,
         modules,
         ranges,
@@ -108,15 +110,23 @@ fn accepted(guest: &[u8], map: &Map, at: u64) -> Option<Found> {
 }
 
 /// The numbers of a list that lies in guest memory and whose reserved fields are 0.
-fn list(guest: &[u8], map: &Map, widths: &[usize; 4], at: u64, count: u64) -> Option<Vec<u64>> {
+fn list(
+    guest: &[u8],
+    map: &Map,
+    widths: &[usize; 4],
+    at: u64,
+    count: u64,
+) -> Result<Vec<u64>, Refusal> {
     if count == 0 {
-        return Some(vec![]);
+        return Ok(vec![]);
     }
-    let place = map.room(at, count * widths.iter().sum::<usize>() as u64)?;
-    let numbers = numbers_of(widths, &guest[place]);
+    let place = map.room(at, count * widths.iter().sum::<usize>() as u64);
+    let numbers = numbers_of(widths, &guest[place.ok_or(Refusal::BadPart)?]);
     let mut reserved = numbers.iter().skip(3).step_by(4);
-    let are_zero = reserved.all(|number| *number == 0);
-    are_zero.then_some(numbers)
+    if !reserved.all(|number| *number == 0) {
+        return Err(Refusal::BadStartReserved);
+    }
+    Ok(numbers)
 }
 
 /// The bytes of whole rows whose numbers fit their fields; a reserved one is 0.
@@ -192,12 +202,17 @@ mod tests {
         let guest = written(START, &ONE, &ONE).unwrap();
         assert_eq!(guest[..8], [0xa5; 8]);
         assert_eq!(guest[120..], [0xa5; 10]);
-        let found = check(&guest, &whole(130), 8).unwrap().unwrap();
+        let found = check(&guest, &whole(130), 8).unwrap();
         assert_eq!(found.block, [MAGIC, 1, 3, 1, 64, 5, 6, 96, 1, 0]);
         assert_eq!(found.modules, ONE);
         assert_eq!(found.ranges, ONE);
-        for address in [0, 7, 9, 74, 75, u64::MAX] {
-            assert_eq!(check(&guest, &whole(130), address), Ok(None), "{address}");
+        for address in [0, 7, 9, 74] {
+            let answer = check(&guest, &whole(130), address);
+            assert_eq!(answer, Err(Refusal::BadStartMagic), "{address}");
+        }
+        for address in [75, u64::MAX] {
+            let answer = check(&guest, &whole(130), address);
+            assert_eq!(answer, Err(Refusal::BadPart), "{address}");
         }
     }
 
@@ -229,11 +244,19 @@ mod tests {
     #[test]
     fn every_fixed_field_is_checked() {
         let guest = written(START, &ONE, &ONE).unwrap();
-        let fixed = [8..16, 60..64, 88..96, 116..120].into_iter().flatten();
-        for place in fixed {
-            let mut other = guest.clone();
-            other[place] ^= 0x10;
-            assert_eq!(check(&other, &whole(130), 8), Ok(None), "{place}");
+        let fixed = [
+            (8..12, Refusal::BadStartMagic),
+            (12..16, Refusal::BadStartVersion),
+            (60..64, Refusal::BadStartReserved),
+            (88..96, Refusal::BadStartReserved),
+            (116..120, Refusal::BadStartReserved),
+        ];
+        for (places, refusal) in fixed {
+            for place in places {
+                let mut other = guest.clone();
+                other[place] ^= 0x10;
+                assert_eq!(check(&other, &whole(130), 8), Err(refusal), "{place}");
+            }
         }
     }
 }

@@ -8,7 +8,7 @@ use borrow.Author.Tests.{leb-true, le-leb}
 use lib.Dec.{leb}
 use Rattle.answers.specs.Pick.{pick}
 use Rattle.answers.specs.Tests.{Test, askedAll, AllHold}
-use Rattle.answers.specs.Keeping.{Keeps, same, lifted, ShutBy, shut-by, Widens, end, stays, grows}
+use Rattle.answers.specs.Keeping.{Keeps, same, lifted, ShutBy, shut-by}
 use Rattle.answers.specs.declared.Refusal.{Refusal}
 use Rattle.answers.specs.declared.Gate.the-variants.{Open}
 use Rattle.answers.proofs.TestsLaws.{first-held, first-failed, by-first}
@@ -48,6 +48,15 @@ keeps-map f (lifted l) lifts = lifted (lifts l)
 -- a number within a bound is within a greater one
 pub leb-grows : (x a b : ℕ) → a ≤ b → leb x a ≡ true → leb x b ≡ true
 leb-grows x a b h e = let l = leb-true x a e in le-leb x b (omega arith)
+
+-- two rows of the same refusals, test by test: a test is the same before and after, or it comes to hold and its refusal may lift.
+-- What follows a test need be shown only where the test held: where it fails, nothing after it is asked.
+pub data Widens (Lifts : Refusal → Type 0) : List Test → List Test → Type 0 where
+  end : Widens Lifts [] []
+  stays : {b b' : Bool} {refusal : Refusal} {ts ts' : List Test} → b' ≡ b → (b ≡ true → Widens Lifts ts ts')
+      → Widens Lifts ((b, refusal) ∷ ts) ((b', refusal) ∷ ts')
+  grows : {b b' : Bool} {refusal : Refusal} {ts ts' : List Test} → (b ≡ true → b' ≡ true) → Lifts refusal → (b ≡ true → Widens Lifts ts ts')
+      → Widens Lifts ((b, refusal) ∷ ts) ((b', refusal) ∷ ts')
 
 -- a row that widens: the gate is kept
 module _ (Lifts : Refusal → Type 0) where

@@ -4,8 +4,8 @@ use Prim.Native.Nat.{ℕ}
 use mathlib.Core.Path.{_≡_, refl}
 use mathlib.Core.List.{List}
 use lib.ListN.{length}
-use Rattle.answers.specs.Keeping.{Keeps, same, Widens, end, stays, grows}
-use Rattle.answers.proofs.KeepingLaws.{widens-append, widens-same}
+use Rattle.answers.specs.Keeping.{Keeps, same}
+use Rattle.answers.proofs.KeepingLaws.{Widens, end, stays, grows, widens-append, widens-same}
 use Rattle.guest.specs.declared.Answer.the-variants.{Refused}
 use Rattle.guest.specs.declared.Memory.{Memory}
 use Rattle.guest.specs.Maps.{goodMap}

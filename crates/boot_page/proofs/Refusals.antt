@@ -4,7 +4,7 @@
 use Prim.Native.Nat.{ℕ}
 use mathlib.Core.Path.{_≡_, sym, _∙_, refl, ap, subst}
 use mathlib.Core.Bool.{true, false}
-use mathlib.Core.List.{List, []}
+use mathlib.Core.List.{List, [], _∷_}
 use native.Mathlib.Omega.{arith}
 use lib.ListN.{length}
 use lib.Seq.{sets}
@@ -16,14 +16,16 @@ use Rattle.answers.specs.declared.Refusal.the-variants.{BadPageSize, TooManyRow
 use Rattle.answers.specs.declared.Gate.{Gate}
 use Rattle.answers.specs.declared.Gate.the-variants.{Open, Shut}
 use Rattle.answers.proofs.TestsLaws.{open-all, all-open, shut-first, first-shut}
+use Rattle.fields.specs.Numbers.{le}
 use Rattle.boot_page.specs.declared.Addresses.{Addresses}
 use Rattle.boot_page.specs.declared.Page.{Page}
 use Rattle.boot_page.specs.declared.Answer.the-variants.{Read, Refused}
 use Rattle.boot_page.specs.declared.Outcome.{Outcome}
 use Rattle.boot_page.specs.Answers.{builtNumber, readNumber, readValues}
-use Rattle.boot_page.specs.Map.{rowsIn}
+use Rattle.boot_page.specs.Places.{commandLineAt, ramdiskAt, ramdiskSizeAt}
+use Rattle.boot_page.specs.Map.{countIn, rowsIn}
 use Rattle.boot_page.specs.Building.{tests, pageOf, Builds}
-use Rattle.boot_page.specs.Reading.{readTests, standingIn, refusedAs, readBy, Reads}
+use Rattle.boot_page.specs.Reading.{readTests, addressesIn, standingIn, refusedAs, readBy, Reads}
 
 -- ---- building
 
@@ -98,6 +100,13 @@ module _ (page before : List ℕ) {r : Outcome} {after : List ℕ} (reads : Read
       (λ first f e. let same : _≡_ {A = Refusal} first refusal = cc in subst (λ x. FirstFails x read-row) same f)
 
   -- the same by the catalogue
+  pub read-number : AllHold read-row
+      → (readNumber (r .answer) ≡ 0)
+      × (readValues (r .answer) ≡ countIn page ∷ le 4 page commandLineAt ∷ le 4 page ramdiskAt ∷ le 4 page ramdiskSizeAt ∷ [])
+  unfolding readNumber readValues standingIn addressesIn
+  read-number h =
+      (ap (λ (o : Outcome). readNumber (o .answer)) (read-where h .0), ap (λ (o : Outcome). readValues (o .answer)) (read-where h .0))
+
   pub not-read-number : {refusal : Refusal} → FirstFails refusal read-row → (readNumber (r .answer) ≡ numberOf refusal) × (readValues (r .answer) ≡ [])
   unfolding readNumber readValues refusedAs
   not-read-number f =

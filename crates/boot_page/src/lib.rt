@@ -50,7 +50,8 @@ pub fn build(page: &mut [u8], setup_header: &[u8], addresses: Addresses, rows: &
     }
 }
 
-// Reads a page, whoever wrote it: what stands there. The numbers of the rows go to the front of `rows`, as far as the list goes.
+// Reads a page, no matter who wrote it: what it holds. The numbers of the rows go to the front of a list that has room for
+// them; a shorter list gets as many as it has elements, and the answer's count is still the page's.
 pub fn read(page: &[u8], rows: &mut [u64]) -> Outcome
     ensures { λ r. ⌜ Reads (now (page .entry)) (now (rows .entry)) r (now (rows .exit)) ⌝ }
 {

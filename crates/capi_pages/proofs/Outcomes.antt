@@ -9,8 +9,8 @@ use Rattle.capi_pages.proofs.pages.rekusoyen_raw_page_read.Kinds as pag
 use Rattle.capi_pages.proofs.pages.rekusoyen_raw_page_read.Reads as page-read-reads
 use Rattle.capi_pages.proofs.starts.rekusoyen_start_write.Kinds as start-write-kinds
 use Rattle.capi_pages.proofs.starts.rekusoyen_start_write.Reads as start-write-reads
-use Rattle.capi_pages.proofs.starts.rekusoyen_raw_start_check.Kinds as start-check-kinds
-use Rattle.capi_pages.proofs.starts.rekusoyen_raw_start_check.Reads as start-check-reads
+use Rattle.capi_pages.proofs.starts.rekusoyen_start_check.Kinds as start-check-kinds
+use Rattle.capi_pages.proofs.starts.rekusoyen_start_check.Reads as start-check-reads
 use Rattle.capi_pages.proofs.starts.rekusoyen_raw_start_block.Kinds as start-block-kinds
 use Rattle.capi_pages.proofs.starts.rekusoyen_raw_start_block.Reads as start-block-reads
 use Rattle.capi_pages.proofs.starts.rekusoyen_start_modules.Kinds as start-modules-kinds
@@ -28,11 +28,11 @@ page-read-one κs a z z' ws ws' p q =
 pub start-write-one : OneOutcome 4 start-write-kinds.ps start-write-kinds.r start-write-reads.Post
 start-write-one κs a z z' ws ws' p q = (meet (p .answer) (q .answer), first (meet (p .memory) (q .memory)))
 
-pub start-check-one : OneOutcome 3 start-check-kinds.ps start-check-kinds.r start-check-reads.Post
-start-check-one κs a z z' ws ws' p q = (meet (p .answer) (q .answer), over (over (over (first (meet (p .told) (q .told))))))
+pub start-check-one : OneOutcome 2 start-check-kinds.ps start-check-kinds.r start-check-reads.Post
+start-check-one κs a z z' ws ws' p q = (meet p q, refl)
 
 pub start-block-one : OneOutcome 2 start-block-kinds.ps start-block-kinds.r start-block-reads.Post
-start-block-one κs a z z' ws ws' p q = (refl, over (over (first (meet p q))))
+start-block-one κs a z z' ws ws' p q = (meet (p .answer) (q .answer), over (over (first (meet (p .told) (q .told)))))
 
 pub start-modules-one : OneOutcome 2 start-modules-kinds.ps start-modules-kinds.r start-modules-reads.Post
 start-modules-one κs a z z' ws ws' p q = (refl, over (over (first (meet p q))))

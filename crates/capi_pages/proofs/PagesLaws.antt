@@ -10,6 +10,7 @@ use borrow.Author.Tests.{eq-eqb, ne-eqb, eqb-true}
 use Rattle.answers.specs.Catalogue.{numberOf}
 use Rattle.answers.specs.declared.Refusal.the-variants.{NoRoom}
 use Rattle.answers.specs.declared.Gate.{Gate}
+use Rattle.answers.specs.declared.Gate.the-variants.{Open, Shut}
 use Rattle.fields.proofs.EveryLaws.{both-held, left-failed, right-failed, left-holds}
 use Rattle.bzimage.specs.SetupHeader.{headerSize}
 use Rattle.boot_page.specs.declared.Addresses.{Addresses}
@@ -17,10 +18,16 @@ use Rattle.boot_page.specs.declared.Outcome.{Outcome}
 use Rattle.boot_page.specs.Answers.{builtNumber, readNumber, readValues}
 use Rattle.boot_page.specs.Building.{gateOf, pageAfter, Builds}
 use Rattle.boot_page.specs.Reading.{readOf, rowsAfter, Reads}
+use Rattle.start_info.specs.Answers.{gateNumber}
 use Rattle.capi_pages.specs.Pages.{headerLeft, PageTells, PageBuilds, readSized, PageReads}
 use Rattle.capi.proofs.LoadsLaws.{picks, passes}
 
 -- ---- building
+
+same-number : (gate : Gate) → gateNumber gate ≡ builtNumber gate
+unfolding gateNumber builtNumber
+same-number Open = refl
+same-number (Shut refusal) = refl
 
 module _ (header : List ℕ) (addresses : Addresses) (rows before : List ℕ) where
   pub build-unsized : {r : ℕ} → (length header ≡ headerSize → ⊥) → r ≡ numberOf NoRoom → PageBuilds header addresses rows before r before
@@ -28,11 +35,11 @@ module _ (header : List ℕ) (addresses : Addresses) (rows before : List ℕ) wh
       let f = ne-eqb (length header) headerSize other in
       record { answer = passes (builtNumber (gateOf (length before) rows)) f e; page = passes (pageAfter header addresses rows before) f refl }
 
-  pub build-sized : {gate : Gate} {r : ℕ} {after : List ℕ} → length header ≡ headerSize → Builds header addresses rows before gate after → r ≡ builtNumber gate
+  pub build-sized : {gate : Gate} {r : ℕ} {after : List ℕ} → length header ≡ headerSize → Builds header addresses rows before gate after → r ≡ gateNumber gate
       → PageBuilds header addresses rows before r after
-  build-sized same builds e =
+  build-sized {gate} same builds e =
       let t = eq-eqb (length header) headerSize same in
-      record { answer = picks (numberOf NoRoom) t (e ∙ ap builtNumber (builds .answer)); page = picks before t (builds .page) }
+      record { answer = picks (numberOf NoRoom) t (e ∙ same-number gate ∙ ap builtNumber (builds .answer)); page = picks before t (builds .page) }
 
 -- ---- sizes
 

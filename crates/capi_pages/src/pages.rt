@@ -1,9 +1,8 @@
 // The boot page, built and read.
 ghost use mathlib.Core.Path.{_≡_};
 ghost use lib.ListN.{length};
-ghost use Rattle.boot_page.specs.Answers.{builtNumber};
 ghost use Rattle.capi_pages.specs.Pages.{addressesOf, readSized, PageTells, PageBuilds, PageReads};
-use answers::Gate;
+use crate::starts;
 use answers::Refusal;
 use boot_page::Addresses;
 use boot_page::Answer;
@@ -13,15 +12,6 @@ use fields::copying;
 
 // How many numbers the rows of a full page have.
 const ROW_NUMBERS: usize = 3 * map::MOST;
-
-fn built(gate: Gate) -> u32
-    ensures { λ r. ⌜ r ≡ builtNumber gate ⌝ }
-{
-    match gate {
-        Gate::Open => 0,
-        Gate::Shut(refusal) => answers::number(refusal),
-    }
-}
 
 // The number of the answer; its values into `out`, and the setup header into `header`.
 fn tell(out: &mut [u64], header: &mut [u8], outcome: Outcome) -> u32
@@ -76,7 +66,7 @@ pub extern "C" fn rekusoyen_page_build(
         ramdisk: ramdisk,
         ramdisk_size: ramdisk_size,
     };
-    built(boot_page::build(page, header, addresses, rows))
+    starts::number(boot_page::build(page, header, addresses, rows))
 }
 
 // Reads a boot page, whoever wrote it. `out` has 4 places: how many rows, the command line's address, the ramdisk's address and size; `rows`

@@ -38,5 +38,5 @@ use Rattle.cases.specs.Cases
 use Rattle.cases.specs.Cases.{Case, cases, resultOf}
 
 pub all-cases : map (λ (c : Case). resultOf (c .ask)) cases ≡ map (λ (c : Case). c .want) cases
-unfolding cases resultOf Cases.e1 Cases.note Cases.saidNumber Cases.lastNumber Pick.pick Tests.asked Numbers.le Numbers.leBytes Ranges.liesWithin Tags.tagAt Addresses.amountOf Addresses.isGiven Loading.behindTests Maps.rangesFrom Maps.inRange Maps.inRanges Maps.goodRange Maps.goodRanges Maps.goodMap Maps.everySecond Maps.rangeCount Room.room Sizes.allowed Stream.pour Stream.streamAt NoteHeaders.noteHeaderOf Header.standWithin ProgramHeaders.headerAt Notes.isWanted Notes.isPvhNote Notes.noteTests NoteWalk.turnAt NoteWalk.walkFrom NoteWalk.entryOf NoteWalk.publicNote Survey.loadStep Survey.noteStep Survey.stepOf Survey.firstFound Survey.advanced Survey.surveyFrom Parts.headerPart Parts.partAt Parts.partOf GuestParts.partStream GuestParts.partsFrom Answers.isLoaded Answers.pvhCode Answers.pvhAddress Answers.pvhPlace Answers.pvhSize Answers.answerNumber Answers.answerValues Formats.answerBy Formats.countBy Formats.partBy Load.noteNumber Load.noteValues Bytes.blank Bytes.printable Bytes.every Bytes.has Trimming.trimStart Trimming.trimEnd Trimming.before Keys.keyTests Values.valueTests Values.quoted Values.protected Joining.spaceAfter Splitting.splitFrom Splitting.splits Splitting.evenAfter Limit.allowed Text.sizeOf Text.bootGap Text.initGap Insertion.insert Insertion.insertStr Insertion.insertInitArgs Making.new Making.tryFrom Calls.run Calls.calls Calls.calling Calls.making
+unfolding cases resultOf Cases.e1 Cases.note Cases.saidNumber Cases.lastNumber Pick.pick Tests.asked Numbers.le Numbers.leBytes Ranges.liesWithin Tags.tagAt Addresses.amountOf Addresses.isGiven Loading.behindTests Maps.rangesFrom Maps.inRange Maps.inRanges Maps.goodRange Maps.goodRanges Maps.goodMap Maps.everySecond Maps.rangeCount Room.room Sizes.allowed Stream.pour Stream.streamAt NoteHeaders.noteHeaderOf Header.standWithin ProgramHeaders.headerAt Notes.isWanted Notes.isPvhNote Notes.noteTests NoteWalk.turnAt NoteWalk.walkFrom NoteWalk.entryOf NoteWalk.publicNote Survey.loadStep Survey.noteStep Survey.stepOf Survey.firstFound Survey.advanced Survey.surveyFrom Parts.headerPart Parts.partAt Parts.partOf GuestParts.partStream GuestParts.partsFrom Answers.isLoaded Answers.pvhCode Answers.pvhAddress Answers.pvhPlace Answers.pvhSize Answers.answerNumber Answers.answerValues Formats.answerBy Formats.countBy Formats.partBy Load.noteNumber Load.noteValues Bytes.blank Bytes.printable Bytes.allBytes Bytes.has Trimming.trimStart Trimming.trimEnd Trimming.before Keys.keyTests Values.valueTests Values.quoted Values.protected Joining.spaceAfter Splitting.splitFrom Splitting.splits Splitting.evenAfter Limit.allowed Text.sizeOf Text.bootGap Text.initGap Insertion.insert Insertion.insertStr Insertion.insertInitArgs Making.new Making.tryFrom Calls.run Calls.calls Calls.calling Calls.making
 all-cases = refl

@@ -14,7 +14,7 @@ use Rattle.answers.specs.declared.Refusal.the-variants as refusal
 use Rattle.answers.specs.declared.Gate.{Gate}
 use Rattle.answers.specs.declared.Gate.the-variants.{Open, Shut}
 use Rattle.answers.proofs.TestsLaws.{open-all, shut-stays, asked-append, hold-left, hold-right}
-use Rattle.slugs.specs.Bytes.{equals, printable, every}
+use Rattle.slugs.specs.Bytes.{equals, printable, allBytes}
 use Rattle.slugs.specs.Lists.{listPre, listed}
 use Rattle.slugs.specs.Trimming.{trim}
 use Rattle.slugs.specs.Keys.{keyTests}
@@ -92,7 +92,7 @@ appends-full g {buffer} {n} {left} {r} whole w = split (askedAll Open (g .tests)
     split (Shut first) e answer bytes = record { answer = answer; bytes = bytes }
 
 -- a slug that the tests before it show to be trimmed and printable has only room left to ask
-module _ (pre : List Test) (w : List ℕ) (told : AllHold pre → (trim w ≡ w) × (every printable w ≡ true)) (b i c : ℕ) where
+module _ (pre : List Test) (w : List ℕ) (told : AllHold pre → (trim w ≡ w) × (allBytes printable w ≡ true)) (b i c : ℕ) where
   last-asked : asked (askedAll Open pre) (leb (sizeOf b i + bootGap b + length w) c) refusal.TooLarge ≡ askedAll Open (pre ++ strAppend b i c w .tests)
   unfolding strAppend asked pick
   last-asked = split (askedAll Open pre) refl ∙ sym (asked-append Open pre (strAppend b i c w .tests))
@@ -113,7 +113,7 @@ module _ (pre : List Test) (w : List ℕ) (told : AllHold pre → (trim w ≡ w)
 
 -- a slug, as the code works it out: trimmed, asked, put
 pub str-appends : (slug s : List ℕ) (b i c : ℕ) {a room fit : Bool} {g h k : Gate} {buffer : List ℕ} {n : ℕ} {left : List ℕ} {r : Appended}
-    → s ≡ trim slug → a ≡ every printable s → g ≡ asked Open a refusal.InvalidAscii → room ≡ leb (sizeOf b i + bootGap b + length s) c
+    → s ≡ trim slug → a ≡ allBytes printable s → g ≡ asked Open a refusal.InvalidAscii → room ≡ leb (sizeOf b i + bootGap b + length s) c
     → h ≡ asked g room refusal.TooLarge → fit ≡ leb (b + bootGap b + length s) (length buffer) → k ≡ asked h fit refusal.TooLarge → n ≡ b
     → AppendsBy k buffer n s r left → Appends (strAppend b i c slug) buffer b r left
 unfolding strAppend
@@ -123,7 +123,7 @@ str-appends slug s b i c {a} {room} {fit} {g} {h} {k} {buffer} {n} {left} {r} tr
     (subst (λ (m : ℕ). AppendsBy k buffer m s r left) en w)
 
 -- a slug that the tests before it show to be trimmed and printable
-pub slug-appends : (pre : List Test) (w : List ℕ) → (AllHold pre → (trim w ≡ w) × (every printable w ≡ true)) → (b i c : ℕ) {m : ℕ} {room fit : Bool}
+pub slug-appends : (pre : List Test) (w : List ℕ) → (AllHold pre → (trim w ≡ w) × (allBytes printable w ≡ true)) → (b i c : ℕ) {m : ℕ} {room fit : Bool}
     {g h k : Gate} {buffer : List ℕ} {n : ℕ} {left : List ℕ} {r : Appended} → c ≤ limit → g ≡ askedAll Open pre → (AllHold pre → m ≡ min (length w) limit)
     → room ≡ leb (sizeOf b i + bootGap b + m) c → h ≡ asked g room refusal.TooLarge → fit ≡ leb (b + bootGap b + m) (length buffer)
     → k ≡ asked h fit refusal.TooLarge → n ≡ b → AppendsBy k buffer n w r left → Appends (afterTests pre (strAppend b i c w)) buffer b r left
@@ -167,7 +167,7 @@ module _ (b i c size base irq : ℕ) (id : DeviceId) {buffer : List ℕ} {n : �
 
 -- a slug after the init text
 pub init-appends : (slug s : List ℕ) (b i c : ℕ) {a room fit : Bool} {g h k : Gate} {buffer : List ℕ} {n : ℕ} {left : List ℕ} {r : Appended}
-    → s ≡ trim slug → a ≡ every printable s → g ≡ asked Open a refusal.InvalidAscii → room ≡ leb (sizeOf b i + initGap i + length s) c
+    → s ≡ trim slug → a ≡ allBytes printable s → g ≡ asked Open a refusal.InvalidAscii → room ≡ leb (sizeOf b i + initGap i + length s) c
     → h ≡ asked g room refusal.TooLarge → fit ≡ leb (i + bootGap i + length s) (length buffer) → k ≡ asked h fit refusal.TooLarge → n ≡ i
     → AppendsBy k buffer n s r left → Appends (initAppend b i c slug) buffer i r left
 unfolding initAppend

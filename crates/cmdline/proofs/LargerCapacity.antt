@@ -9,11 +9,11 @@ use lib.Dec.{leb, eqb}
 use lib.ListN.{length}
 use Rattle.answers.specs.Pick.{pick}
 use Rattle.answers.specs.Tests.{Test, asked, askedAll}
-use Rattle.answers.specs.Keeping.{ShutBy, shut-by, Widens, end, stays, grows}
+use Rattle.answers.specs.Keeping.{ShutBy, shut-by}
 use Rattle.answers.specs.declared.Refusal.the-variants as refusal
 use Rattle.answers.specs.declared.Gate.{Gate}
 use Rattle.answers.specs.declared.Gate.the-variants.{Open, Shut}
-use Rattle.answers.proofs.KeepingLaws.{row-keeps, kept, leb-grows, widens-append, widens-same}
+use Rattle.answers.proofs.KeepingLaws.{Widens, end, stays, grows, row-keeps, kept, leb-grows, widens-append, widens-same}
 use Rattle.cmdline.specs.Limit.{allowed}
 use Rattle.slugs.specs.Trimming.{trim}
 use Rattle.slugs.specs.Bytes.{equals}

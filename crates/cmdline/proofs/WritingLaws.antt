@@ -22,7 +22,7 @@ use Rattle.cmdline.specs.declared.Written.{Written}
 use Rattle.cmdline.specs.declared.Written.the-variants as written
 use Rattle.cmdline.specs.Limit.{limit}
 use Rattle.cmdline.specs.Text.{Text, sizeOf}
-use Rattle.cmdline.specs.Writing.{bare, wholeOf, headed, textTests, writeGate, writtenOf, writtenBytes, Writes, sameBytes, sameLine}
+use Rattle.cmdline.specs.Writing.{bare, wholeLine, headed, textTests, writeGate, writtenOf, writtenBytes, Writes, sameBytes, sameLine}
 use Rattle.slugs.proofs.ListLaws.{here, gone}
 use Rattle.slugs.proofs.BytesLaws.{has-append}
 use Rattle.slugs.specs.Splitting.{separator}
@@ -30,33 +30,33 @@ use Rattle.slugs.specs.Splitting.{separator}
 -- ---- with init text and without
 
 module _ (b i : List ℕ) where
-  pub whole-none : length i ≡ 0 → wholeOf b i ≡ b
-  unfolding wholeOf pick
+  pub whole-none : length i ≡ 0 → wholeLine b i ≡ b
+  unfolding wholeLine pick
   whole-none z = rw (eq-eqb (length i) 0 z) (append-nil b)
 
-  pub whole-some : (length i ≡ 0 → ⊥) → wholeOf b i ≡ b ++ (separator ++ i)
-  unfolding wholeOf pick
+  pub whole-some : (length i ≡ 0 → ⊥) → wholeLine b i ≡ b ++ (separator ++ i)
+  unfolding wholeLine pick
   whole-some z = rw (ne-eqb (length i) 0 z)
 
-  pub some-long : (length i ≡ 0 → ⊥) → length (wholeOf b i) ≡ length b + 4 + length i
+  pub some-long : (length i ≡ 0 → ⊥) → length (wholeLine b i) ≡ length b + 4 + length i
   some-long z = ap length (whole-some z) ∙ length-append b (separator ++ i) ∙ omega arith
 
-  pub none-long : length i ≡ 0 → length (wholeOf b i) ≡ length b
+  pub none-long : length i ≡ 0 → length (wholeLine b i) ≡ length b
   none-long z = ap length (whole-none z)
 
   -- with its zero it has the counted size
-  pub whole-size : length (wholeOf b i) + 1 ≡ sizeOf (length b) (length i)
+  pub whole-size : length (wholeLine b i) + 1 ≡ sizeOf (length b) (length i)
   unfolding sizeOf pick
   whole-size = split (ℕ-discrete (length i) 0)
     where
-      split : Dec (length i ≡ 0) → length (wholeOf b i) + 1 ≡ length b + 1 + pick (eqb (length i) 0) 0 (4 + length i)
+      split : Dec (length i ≡ 0) → length (wholeLine b i) + 1 ≡ length b + 1 + pick (eqb (length i) 0) 0 (4 + length i)
       split (yes z) = rw (eq-eqb (length i) 0 z) (let w = none-long z in omega arith)
       split (no z) = rw (ne-eqb (length i) 0 z) (let w = some-long z in omega arith)
 
-  pub whole-most : length (wholeOf b i) ≤ length b + 4 + length i
+  pub whole-most : length (wholeLine b i) ≤ length b + 4 + length i
   whole-most = split (ℕ-discrete (length i) 0)
     where
-      split : Dec (length i ≡ 0) → length (wholeOf b i) ≤ length b + 4 + length i
+      split : Dec (length i ≡ 0) → length (wholeLine b i) ≤ length b + 4 + length i
       split (yes z) = let w = none-long z in omega arith
       split (no z) = let w = some-long z in omega arith
 
@@ -70,11 +70,11 @@ empty-list : (i : List ℕ) → length i ≡ 0 → i ≡ []
 empty-list [] z = refl
 empty-list (x ∷ xs) z = absurd (omega arith)
 
-pub whole-has : (b i : List ℕ) → has 0 (wholeOf b i) ≡ (has 0 b || has 0 i)
+pub whole-has : (b i : List ℕ) → has 0 (wholeLine b i) ≡ (has 0 b || has 0 i)
 unfolding has
 whole-has b i = split (ℕ-discrete (length i) 0)
   where
-    split : Dec (length i ≡ 0) → has 0 (wholeOf b i) ≡ (has 0 b || has 0 i)
+    split : Dec (length i ≡ 0) → has 0 (wholeLine b i) ≡ (has 0 b || has 0 i)
     split (yes z) = rw (whole-none b i z, empty-list i z) (sym (or-false (has 0 b)))
     split (no z) = rw (whole-some b i z, has-append)
 
@@ -100,22 +100,22 @@ text-asked b i {t} {g} {h} {k} {x} {y} et eg ex eh ey ek =
 
 module _ (b i : List ℕ) where
   -- a place past the boot text says that there is init text
-  past-some : (k : ℕ) → k < length (wholeOf b i) → length b ≤ k → length i ≡ 0 → ⊥
+  past-some : (k : ℕ) → k < length (wholeLine b i) → length b ≤ k → length i ≡ 0 → ⊥
   past-some k h p z = let w = none-long b i z in omega arith
 
-  pub at-boot : (k : ℕ) → k < length b → getD b k 0 ≡ getD (wholeOf b i) k 0
-  unfolding wholeOf
+  pub at-boot : (k : ℕ) → k < length b → getD b k 0 ≡ getD (wholeLine b i) k 0
+  unfolding wholeLine
   at-boot k h = sym (List·getD-append b (pick (eqb (length i) 0) [] (separator ++ i)) 0 k h)
 
-  past : (k : ℕ) → k < length (wholeOf b i) → length b ≤ k → getD (wholeOf b i) k 0 ≡ getD (separator ++ i) (k - length b) 0
+  past : (k : ℕ) → k < length (wholeLine b i) → length b ≤ k → getD (wholeLine b i) k 0 ≡ getD (separator ++ i) (k - length b) 0
   past k h p =
       let q : k ≡ length b + (k - length b) = omega arith in
       rw (whole-some b i (past-some k h p)) (ap (λ (m : ℕ). getD (b ++ (separator ++ i)) m 0) q ∙ getD-append-add b (separator ++ i) (k - length b) 0)
 
-  pub at-separator : (k : ℕ) → k < length (wholeOf b i) → length b ≤ k → k - length b < 4 → getD separator (k - length b) 0 ≡ getD (wholeOf b i) k 0
+  pub at-separator : (k : ℕ) → k < length (wholeLine b i) → length b ≤ k → k - length b < 4 → getD separator (k - length b) 0 ≡ getD (wholeLine b i) k 0
   at-separator k h p l = sym (past k h p ∙ List·getD-append separator i 0 (k - length b) l)
 
-  pub at-init : (k : ℕ) → k < length (wholeOf b i) → length b ≤ k → 4 ≤ k - length b → getD i (k - length b - 4) 0 ≡ getD (wholeOf b i) k 0
+  pub at-init : (k : ℕ) → k < length (wholeLine b i) → length b ≤ k → 4 ≤ k - length b → getD i (k - length b - 4) 0 ≡ getD (wholeLine b i) k 0
   at-init k h p l =
       let q : k - length b ≡ 4 + (k - length b - 4) = omega arith in
       sym (past k h p ∙ ap (λ (m : ℕ). getD (separator ++ i) m 0) q ∙ getD-append-add separator i (k - length b - 4) 0)
@@ -152,7 +152,7 @@ same-lengths (x ∷ xs) (y ∷ ys) z = rw (same-lengths xs ys (λ e. z (ap suc e
 module _ (boot init out : List ℕ) {g h : Gate} {room : Bool} (text : g ≡ askedAll Open (textTests boot init))
     (fits : room ≡ leb (sizeOf (length boot) (length init)) (length out)) (last : h ≡ asked g room refusal.NoRoom) where
   abbrev room-test : Test
-  room-test = (leb (length (wholeOf boot init) + 1) (length out), refusal.NoRoom)
+  room-test = (leb (length (wholeLine boot init) + 1) (length out), refusal.NoRoom)
 
   write-gate : h ≡ writeGate (bare boot init) (length out)
   write-gate = last ∙ rw (text, fits, ← whole-size boot init) (sym (asked-append Open (textTests boot init) (room-test ∷ [])))
@@ -165,15 +165,15 @@ module _ (boot init out : List ℕ) {g h : Gate} {room : Bool} (text : g ≡ ask
         bytes = ap (λ (x : Gate). sets out 0 (writtenBytes x (bare boot init))) gate;
       }
 
-  pub writes-whole : {left : List ℕ} {k : ℕ} → h ≡ Open → Stored out 0 (wholeOf boot init ++ (0 ∷ [])) left k
+  pub writes-whole : {left : List ℕ} {k : ℕ} → h ≡ Open → Stored out 0 (wholeLine boot init ++ (0 ∷ [])) left k
       → Writes (bare boot init) out (written.Bytes k) left
   writes-whole {left} {k} e w =
       let gate : Open ≡ writeGate (bare boot init) (length out) = sym e ∙ write-gate in
       let hold = open-all (textTests boot init ++ (room-test ∷ [])) (sym gate) in
-      let enough = leb-true (length (wholeOf boot init) + 1) (length out) (hold-right (textTests boot init) (room-test ∷ []) hold .0) in
-      let long = length-append (wholeOf boot init) (0 ∷ []) in
+      let enough = leb-true (length (wholeLine boot init) + 1) (length out) (hold-right (textTests boot init) (room-test ∷ []) hold .0) in
+      let long = length-append (wholeLine boot init) (0 ∷ []) in
       let place = w .place in
-      let count : k ≡ length (wholeOf boot init) + 1 = omega arith in
+      let count : k ≡ length (wholeLine boot init) + 1 = omega arith in
       record {
         answer = ap written.Bytes count ∙ ap (λ (x : Gate). writtenOf x (bare boot init)) gate;
         bytes = w .bytes ∙ ap (λ (x : Gate). sets out 0 (writtenBytes x (bare boot init))) gate;

@@ -10,7 +10,7 @@ use Rattle.answers.specs.Tests.{Test, asked, askedAll}
 use Rattle.answers.specs.declared.Refusal.the-variants as refusal
 use Rattle.answers.specs.declared.Gate.{Gate}
 use Rattle.answers.specs.declared.Gate.the-variants.{Open, Shut}
-use Rattle.slugs.specs.Bytes.{equals, printable, every}
+use Rattle.slugs.specs.Bytes.{equals, printable, allBytes}
 use Rattle.slugs.specs.Trimming.{trim}
 use Rattle.slugs.specs.Keys.{keyTests}
 use Rattle.slugs.specs.Values.{valueTests, pair}
@@ -39,7 +39,7 @@ afterTests ts g = record { tests = ts ++ g .tests; slug = g .slug }
 unfoldable pub strAppend : ℕ → ℕ → ℕ → List ℕ → Append
 strAppend b i c slug =
     record {
-      tests = (every printable (trim slug), refusal.InvalidAscii) ∷ (leb (sizeOf b i + bootGap b + length (trim slug)) c, refusal.TooLarge) ∷ [];
+      tests = (allBytes printable (trim slug), refusal.InvalidAscii) ∷ (leb (sizeOf b i + bootGap b + length (trim slug)) c, refusal.TooLarge) ∷ [];
       slug = trim slug;
     }
 
@@ -60,7 +60,7 @@ deviceAppend b i c size base irq id =
 unfoldable pub initAppend : ℕ → ℕ → ℕ → List ℕ → Append
 initAppend b i c slug =
     record {
-      tests = (every printable (trim slug), refusal.InvalidAscii) ∷ (leb (sizeOf b i + initGap i + length (trim slug)) c, refusal.TooLarge) ∷ [];
+      tests = (allBytes printable (trim slug), refusal.InvalidAscii) ∷ (leb (sizeOf b i + initGap i + length (trim slug)) c, refusal.TooLarge) ∷ [];
       slug = trim slug;
     }
 

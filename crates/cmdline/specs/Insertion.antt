@@ -9,7 +9,7 @@ use Rattle.answers.specs.declared.Gate.the-variants.{Open, Shut}
 use Rattle.answers.specs.Catalogue.{numberOf}
 use Rattle.cmdline.specs.declared.Answer.{Answer}
 use Rattle.cmdline.specs.declared.Answer.the-variants.{Accepted, Refused}
-use Rattle.slugs.specs.Bytes.{equals, printable, every}
+use Rattle.slugs.specs.Bytes.{equals, printable, allBytes}
 use Rattle.slugs.specs.Trimming.{trim}
 use Rattle.slugs.specs.Keys.{keyTests}
 use Rattle.slugs.specs.Values.{valueTests, pair}
@@ -54,7 +54,7 @@ withInit t i = record { boot = t .boot; init = i; capacity = t .capacity }
 unfoldable pub insertStr : Text → List ℕ → Plan
 insertStr t slug =
     record {
-      tests = (every printable (trim slug), refusal.InvalidAscii) ∷ (bootRoom t (length (trim slug)), refusal.TooLarge) ∷ [];
+      tests = (allBytes printable (trim slug), refusal.InvalidAscii) ∷ (bootRoom t (length (trim slug)), refusal.TooLarge) ∷ [];
       text = withBoot t (joined (t .boot) (trim slug));
     }
 
@@ -62,7 +62,7 @@ insertStr t slug =
 unfoldable pub insertInitArgs : Text → List ℕ → Plan
 insertInitArgs t slug =
     record {
-      tests = (every printable (trim slug), refusal.InvalidAscii) ∷ (initRoom t (length (trim slug)), refusal.TooLarge) ∷ [];
+      tests = (allBytes printable (trim slug), refusal.InvalidAscii) ∷ (initRoom t (length (trim slug)), refusal.TooLarge) ∷ [];
       text = withInit t (joined (t .init) (trim slug));
     }
 

@@ -19,11 +19,11 @@ use Rattle.cmdline.specs.Text.{Text}
 use Rattle.slugs.specs.Splitting.{separator}
 
 -- the whole text, without its zero: boot, and the separator and init if init is not empty
-unfoldable pub wholeOf : List ℕ → List ℕ → List ℕ
-wholeOf boot init = boot ++ pick (eqb (length init) 0) [] (separator ++ init)
+unfoldable pub wholeLine : List ℕ → List ℕ → List ℕ
+wholeLine boot init = boot ++ pick (eqb (length init) 0) [] (separator ++ init)
 
 abbrev pub whole : Text → List ℕ
-whole t = wholeOf (t .boot) (t .init)
+whole t = wholeLine (t .boot) (t .init)
 
 -- no init text, or boot text before it
 unfoldable pub headed : ℕ → ℕ → Bool
@@ -32,7 +32,7 @@ headed boots inits = pick (eqb inits 0) true (ltb 0 boots)
 -- no init text alone, then no zero byte in the text
 unfoldable pub textTests : List ℕ → List ℕ → List Test
 textTests boot init =
-    (headed (length boot) (length init), refusal.NoBootArgsInserted) ∷ (not (has 0 (wholeOf boot init)), refusal.NullTerminator) ∷ []
+    (headed (length boot) (length init), refusal.NoBootArgsInserted) ∷ (not (has 0 (wholeLine boot init)), refusal.NullTerminator) ∷ []
 
 -- what is said of the text, given room
 abbrev pub textGate : Text → Gate

@@ -15,7 +15,7 @@ ghost use Rattle.answers.specs.Tests.{askedAll};
 ghost use Rattle.answers.specs.declared.Gate.the-variants.{Open};
 ghost use Rattle.slugs.specs.Stored.{Stored};
 ghost use Rattle.cmdline.specs.Limit.{limit};
-ghost use Rattle.cmdline.specs.Writing.{bare, headed, wholeOf, textTests, sameBytes, sameAnswer, sameLine, Writes};
+ghost use Rattle.cmdline.specs.Writing.{bare, headed, wholeLine, textTests, sameBytes, sameAnswer, sameLine, Writes};
 use crate::LIMIT;
 use crate::Written;
 use crate::sizes;
@@ -50,7 +50,7 @@ pub fn text_gate(boot: &[u8], init: &[u8]) -> Gate
 
 // The whole text and its zero, at the start of out, as far as it goes; the place after them.
 pub fn write(out: &mut [u8], boot: &[u8], init: &[u8]) -> usize
-    ensures { λ r. ⌜ Stored (now (out .entry)) 0 (wholeOf (now (boot .entry)) (now (init .entry)) ++ (0 ∷ [])) (now (out .exit)) r ⌝ }
+    ensures { λ r. ⌜ Stored (now (out .entry)) 0 (wholeLine (now (boot .entry)) (now (init .entry)) ++ (0 ∷ [])) (now (out .exit)) r ⌝ }
 {
     let at = buffers::put(out, 0, boot);
     if init.len() == 0 {
@@ -79,7 +79,7 @@ pub fn as_cstring(out: &mut [u8], boot: &[u8], init: &[u8]) -> Written
 
 fn whole_len(boot: &[u8], init: &[u8]) -> usize
     requires { ⌜ (length (now boot) ≤ limit) × (length (now init) ≤ limit) ⌝ }
-    ensures { λ r. ⌜ r ≡ length (wholeOf (now (boot .entry)) (now (init .entry))) ⌝ }
+    ensures { λ r. ⌜ r ≡ length (wholeLine (now (boot .entry)) (now (init .entry))) ⌝ }
 {
     if init.len() == 0 {
         return boot.len();
@@ -89,8 +89,8 @@ fn whole_len(boot: &[u8], init: &[u8]) -> usize
 
 // The byte at a place of the whole text.
 fn byte_at(boot: &[u8], init: &[u8], i: usize) -> u8
-    requires { ⌜ i < length (wholeOf (now boot) (now init)) ⌝ }
-    ensures { λ r. ⌜ r ≡ getD (wholeOf (now (boot .entry)) (now (init .entry))) i 0 ⌝ }
+    requires { ⌜ i < length (wholeLine (now boot) (now init)) ⌝ }
+    ensures { λ r. ⌜ r ≡ getD (wholeLine (now (boot .entry)) (now (init .entry))) i 0 ⌝ }
 {
     if i < boot.len() {
         return boot[i];
@@ -105,7 +105,7 @@ fn byte_at(boot: &[u8], init: &[u8], i: usize) -> u8
 
 fn same_whole(boot: &[u8], init: &[u8], boot2: &[u8], init2: &[u8]) -> bool
     requires { ⌜ (length (now boot) ≤ limit) × (length (now init) ≤ limit) × (length (now boot2) ≤ limit) × (length (now init2) ≤ limit) ⌝ }
-    ensures { λ r. ⌜ r ≡ sameBytes (wholeOf (now (boot .entry)) (now (init .entry))) (wholeOf (now (boot2 .entry)) (now (init2 .entry))) ⌝ }
+    ensures { λ r. ⌜ r ≡ sameBytes (wholeLine (now (boot .entry)) (now (init .entry))) (wholeLine (now (boot2 .entry)) (now (init2 .entry))) ⌝ }
 {
     let n = whole_len(boot, init);
     if n != whole_len(boot2, init2) {

@@ -13,11 +13,11 @@ use lib.ListN.{length, drop, length-drop}
 use lib.Seq.{take-append-le, drop-append-le}
 use Rattle.answers.specs.Listing.{contains}
 use Rattle.answers.specs.Tests.{AllHold}
-use Rattle.answers.specs.Keeping.{Keeps, same, lifted, ShutBy, shut-by, Widens, end, stays, grows}
+use Rattle.answers.specs.Keeping.{Keeps, same, lifted, ShutBy, shut-by}
 use Rattle.answers.specs.declared.Gate.{Gate}
 use Rattle.answers.specs.declared.Refusal.{Refusal}
 use Rattle.answers.specs.declared.Refusal.the-variants.{ReadElfHeader, ReadProgramHeader, ReadKernelImage, ReadNoteHeader}
-use Rattle.answers.proofs.KeepingLaws.{equal, pick-same, leb-grows, row-keeps, widens-append, widens-same}
+use Rattle.answers.proofs.KeepingLaws.{Widens, end, stays, grows, equal, pick-same, leb-grows, row-keeps, widens-append, widens-same}
 use Rattle.fields.proofs.NumbersLaws.{le-append}
 use Rattle.fields.proofs.RangesLaws.{within-sum}
 use Rattle.fields.proofs.TagsLaws.{tag-append}

@@ -10,12 +10,12 @@ use lib.Dec.{leb}
 use lib.ListN.{length, length-append}
 use Rattle.answers.specs.Pick.{pick}
 use Rattle.answers.specs.Tests.{Test, askedAll, AllHold}
-use Rattle.answers.specs.Keeping.{Keeps, same, lifted, ShutBy, shut-by, Widens, end, stays, grows}
+use Rattle.answers.specs.Keeping.{Keeps, same, lifted, ShutBy, shut-by}
 use Rattle.answers.specs.declared.Gate.{Gate}
 use Rattle.answers.specs.declared.Gate.the-variants.{Open, Shut}
 use Rattle.answers.specs.declared.Refusal.{Refusal}
 use Rattle.answers.specs.declared.Refusal.the-variants.{ReadNoteHeader, InvalidPvhNote}
-use Rattle.answers.proofs.KeepingLaws.{kept, equal, keeps-map, pick-same, row-keeps, widens-same}
+use Rattle.answers.proofs.KeepingLaws.{Widens, end, stays, grows, kept, equal, keeps-map, pick-same, row-keeps, widens-same}
 use Rattle.answers.proofs.TestsLaws.{open-all}
 use Rattle.fields.specs.Ranges.{liesWithin}
 use Rattle.fields.specs.Tags.{tagAt}

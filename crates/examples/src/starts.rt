@@ -4,7 +4,6 @@ use answers::Gate;
 use fields::numbers;
 use guest::GuestAddress;
 use guest::maps;
-use start_info::Answer;
 use start_info::Start;
 
 fn print_block(guest: &[u8]) {
@@ -14,26 +13,25 @@ fn print_block(guest: &[u8]) {
 }
 
 fn check(guest: &[u8]) {
-    let answer = start_info::check(guest, maps::whole(guest.len() as u64), GuestAddress(0));
-    match answer {
-        Answer::Accepted => {
+    let gate = start_info::check(guest, maps::whole(guest.len() as u64), GuestAddress(0));
+    match gate {
+        Gate::Open => {
             printing::word(b" accepted");
             print_block(guest);
         }
-        Answer::NotAccepted => printing::word(b" not accepted"),
-        Answer::Refused(refusal) => printing::refusal(refusal),
+        Gate::Shut(refusal) => printing::refusal(refusal),
     }
 }
 
 // A block at 0, its list of one module at an address, and the memory map of one row at 88.
 fn write(guest: &mut [u8], modules: u64) -> Gate {
     let start = Start {
-        block: 0,
-        modules: modules,
-        ranges: 88,
+        block: GuestAddress(0),
+        modules: GuestAddress(modules),
+        ranges: GuestAddress(88),
         flags: 0,
-        command_line: 4096,
-        rsdp: 8192,
+        command_line: GuestAddress(4096),
+        rsdp: GuestAddress(8192),
     };
     start_info::write(
         guest,

@@ -35,7 +35,8 @@ pub fn bytes_of(width: u64) -> u64
     if width < 8 { width } else { 8 }
 }
 
-// The number of `width` bytes at a place, the last byte first: every reader below is this one.
+// The number of `width` bytes at an offset, byte by byte, the last one first. The readers of two, four and eight bytes
+// below fall back on it if the number passes the end of the slice.
 pub fn read_le(s: &[u8], at: u64, width: u64) -> u64
     ensures { λ r. ⌜ ReadAs (min width 8) (now (s .entry)) at r ⌝ }
 {

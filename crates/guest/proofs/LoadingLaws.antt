@@ -5,12 +5,12 @@ use mathlib.Core.Bool.{false}
 use mathlib.Core.List.{List, [], _++_}
 use lib.ListN.{length, getD}
 use Rattle.answers.specs.Tests.{Test, askedAll, AllHold, FirstFails}
-use Rattle.answers.specs.Keeping.{Keeps, same, lifted, ShutBy, shut-by, Widens}
+use Rattle.answers.specs.Keeping.{Keeps, same, lifted, ShutBy, shut-by}
 use Rattle.answers.specs.declared.Refusal.{Refusal}
 use Rattle.answers.specs.declared.Gate.{Gate}
 use Rattle.answers.specs.declared.Gate.the-variants.{Open, Shut}
 use Rattle.answers.proofs.TestsLaws.{open-all, all-open, shut-first, first-shut}
-use Rattle.answers.proofs.KeepingLaws.{row-keeps, kept}
+use Rattle.answers.proofs.KeepingLaws.{Widens, row-keeps, kept}
 use Rattle.guest.specs.Maps.{rangesOf, inRanges}
 use Rattle.guest.specs.Room.{memoryOf}
 use Rattle.guest.specs.Stream.{pour, Inside, none}

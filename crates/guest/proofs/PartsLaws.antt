@@ -17,7 +17,7 @@ use Rattle.fields.proofs.RangesLaws.{within-sum}
 use Rattle.guest.specs.Room.{room}
 use Rattle.guest.specs.Stream.{Poke, pour, streamAt, bytesAt, Inside, none}
 use Rattle.guest.specs.Loading.{Plan, Loads}
-use Rattle.guest.specs.Parts.{partStream, noPart, keptPart, Stands, Fits, PartCopied, partsFrom, leftOf, Place, placeAfter, portionOf}
+use Rattle.guest.specs.Parts.{partStream, noPart, keptPart, PartLies, Fits, PartCopied, partsFrom, leftOf, Place, placeAfter, portionOf}
 use Rattle.guest.specs.declared.Memory.{Memory}
 use Rattle.guest.specs.declared.Part.{Part}
 use Rattle.guest.specs.declared.Portion.{Portion}
@@ -106,15 +106,15 @@ module _ (image : List ℕ) (p : Part) (fits : p .place .0 + p .size ≤ length 
           part-past image p passed (let e : n ≡ 0 = omega arith in e)
           ∙ sym (ap (take budget) (drop-of-length-le (partStream image p) {i = skip} (subst⁻¹ (λ k. k ≤ skip) part-length (omega arith))) ∙ take-nil budget)
 
-pub none-stands : (imageLength : ℕ) (m : Memory) → Stands imageLength m noPart
+pub none-stands : (imageLength : ℕ) (m : Memory) → PartLies imageLength m noPart
 none-stands imageLength m = record { in-image = omega arith; in-slice = omega arith; has-room = λ some. absurd (omega arith) }
 
 -- what is kept stands in the image and has room
-pub kept-stands : (imageLength : ℕ) (m : Memory) (p : Part) → Stands imageLength m (keptPart imageLength m p)
+pub kept-stands : (imageLength : ℕ) (m : Memory) (p : Part) → PartLies imageLength m (keptPart imageLength m p)
 unfolding keptPart
 kept-stands imageLength m p =
-    pick-with (Stands imageLength m) _
-    (λ in-image. pick-with (Stands imageLength m) _
+    pick-with (PartLies imageLength m) _
+    (λ in-image. pick-with (PartLies imageLength m) _
     (λ has-room. record { in-image = within-sum imageLength (p .place .0) (p .size) in-image; in-slice = room-size m (p .address .0) (p .size) has-room; has-room = λ _. has-room })
     (λ _. none-stands imageLength m))
     (λ _. none-stands imageLength m)
@@ -171,14 +171,14 @@ copied-is image m p skip budget guest {safe} {passed} {n} {after} is ep en wrote
       counted = en ∙ ap (λ x. min budget (safe .size - x)) ep;
       memory =
           wrote
-          ∙ ap (λ ps. pour ps guest) (part-portion image safe (subst⁻¹ (Stands (length image) m) is (kept-stands (length image) m p) .in-image) skip budget ep en);
+          ∙ ap (λ ps. pour ps guest) (part-portion image safe (subst⁻¹ (PartLies (length image) m) is (kept-stands (length image) m p) .in-image) skip budget ep en);
     })
 
 nothing-inside : (m : Memory) (a : ℕ) (vs : List ℕ) → vs ≡ [] → Inside m (streamAt a vs)
 unfolding streamAt
 nothing-inside m a vs e = rw e none
 
-pub part-inside : (image : List ℕ) (m : Memory) (p : Part) → Stands (length image) m p → Inside m (partStream image p)
+pub part-inside : (image : List ℕ) (m : Memory) (p : Part) → PartLies (length image) m p → Inside m (partStream image p)
 unfolding partStream
 part-inside image m p keeps = split (decLe 1 (p .size))
   where
@@ -422,7 +422,7 @@ portion-past image part n at done budget guest past =
 
 -- ---- every portion lies in memory
 
-pub parts-inside : (image : List ℕ) (m : Memory) (part : ℕ → Part) → ((j : ℕ) → Stands (length image) m (part j)) → (k i : ℕ) → Inside m (partsFrom k image part i)
+pub parts-inside : (image : List ℕ) (m : Memory) (part : ℕ → Part) → ((j : ℕ) → PartLies (length image) m (part j)) → (k i : ℕ) → Inside m (partsFrom k image part i)
 unfolding partsFrom
 parts-inside image m part keep zero i = none
 parts-inside image m part keep (suc k) i = inside-append (part-inside image m (part i) (keep i)) (parts-inside image m part keep k (suc i))

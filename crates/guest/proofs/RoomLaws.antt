@@ -8,13 +8,13 @@ use native.Mathlib.Decide.{decLe}
 use borrow.Author.Tests.{le-leb, eq-eqb}
 use lib.Dec.{leb}
 use lib.ListN.{length, length-append}
-use Rattle.answers.specs.Keeping.{Widens, end, stays}
 use Rattle.answers.specs.Tests.{Test, asked, askedAll}
 use Rattle.answers.specs.declared.Gate.{Gate}
 use Rattle.answers.specs.declared.Refusal.{Refusal}
 use Rattle.answers.specs.declared.Refusal.the-variants.{SliceTooLong, BadMap}
 use Rattle.answers.proofs.BoolLaws.{both-held}
 use Rattle.answers.proofs.TestsLaws.{holds-passed}
+use Rattle.answers.proofs.KeepingLaws.{Widens, end, stays}
 use Rattle.fields.specs.Ranges.{liesWithin}
 use Rattle.fields.proofs.RangesLaws.{within-sum, sum-within, sum-beyond}
 use Rattle.guest.specs.Maps.{rangesOf, inRanges, mostRanges, goodRanges, goodMap, wholeMap}

@@ -27,7 +27,7 @@ unfoldable pub keptPart : ℕ → Memory → Part → Part
 keptPart imageLength m p = pick (liesWithin imageLength (p .place .0) (p .size)) (pick (room m (p .address .0) (p .size)) p noPart) noPart
 
 -- a part whose bytes stand in an image of this length and, if there are any, have room in memory
-pub record Stands (imageLength : ℕ) (m : Memory) (p : Part) : Type 0 where
+pub record PartLies (imageLength : ℕ) (m : Memory) (p : Part) : Type 0 where
   pub in-image : p .place .0 + p .size ≤ imageLength
   pub in-slice : p .address .0 + p .size ≤ m .size
   pub has-room : 0 < p .size → room m (p .address .0) (p .size) ≡ true

@@ -16,7 +16,7 @@ use Rattle.answers.specs.declared.Gate.the-variants.{Open, Shut}
 use Rattle.answers.proofs.PickLaws.{held}
 use Rattle.answers.proofs.TestsLaws.{hold-right}
 use Rattle.cmdline.specs.Text.{Text, sizeOf}
-use Rattle.cmdline.specs.Writing.{wholeOf, textGate, bare}
+use Rattle.cmdline.specs.Writing.{wholeLine, textGate, bare}
 use Rattle.cmdline.proofs.WritingLaws.{whole-size}
 use Rattle.guest.specs.Lent.{memoryTests}
 use Rattle.guest.specs.Loading.{Plan}
@@ -32,7 +32,7 @@ use Rattle.loader.specs.Lines.{lineBytes, textRow, roomRow, tests, lineP
 
 -- the line and its zero have the counted size
 line-length : (b i : List ℕ) → length (lineBytes (bare b i)) ≡ sizeOf (length b) (length i)
-line-length b i = length-append (wholeOf b i) (0 ∷ []) ∙ whole-size b i
+line-length b i = length-append (wholeLine b i) (0 ∷ []) ∙ whole-size b i
 
 -- the tests as code asks them, one after the other
 pub tests-asked : (b i : List ℕ) (m : Memory) (address : ℕ) {lent text-said texts all : Gate} {good has : Bool} → lent ≡ askedAll Open (memoryTests m)

@@ -6,8 +6,8 @@ use mathlib.Core.Bool.{true}
 use mathlib.Core.List.{List, _++_}
 use native.Mathlib.Omega.{arith}
 use lib.ListN.{length, length-append}
-use Rattle.answers.specs.Keeping.{same, Widens, end, grows}
-use Rattle.answers.proofs.KeepingLaws.{widens-append, widens-same}
+use Rattle.answers.specs.Keeping.{same}
+use Rattle.answers.proofs.KeepingLaws.{Widens, end, grows, widens-append, widens-same}
 use Rattle.cmdline.specs.Text.{Text}
 use Rattle.guest.specs.Loading.{RefusedFor}
 use Rattle.guest.specs.Maps.{goodMap}

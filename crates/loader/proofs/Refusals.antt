@@ -14,7 +14,7 @@ use Rattle.answers.specs.Listing.{contains, Listed, rowListed}
 use Rattle.answers.proofs.ListingLaws.{first-listed}
 use Rattle.slugs.specs.Bytes.{has}
 use Rattle.cmdline.specs.Text.{Text}
-use Rattle.cmdline.specs.Writing.{headed, wholeOf, textTests, textGate}
+use Rattle.cmdline.specs.Writing.{headed, wholeLine, textTests, textGate}
 use Rattle.guest.specs.Loading.{Plan}
 use Rattle.guest.specs.Room.{memoryOf}
 use Rattle.guest.specs.declared.Map.{Map}
@@ -50,9 +50,9 @@ invalid-when t (null-terminator e) = ap isOpen e
 
 pub when-invalid : (t : Text) → isOpen (textGate t) ≡ false → TextRefused t
 unfolding isOpen textTests asked pick
-when-invalid t e = by-tests (headed (length (t .boot)) (length (t .init))) (not (has 0 (wholeOf (t .boot) (t .init)))) refl refl e
+when-invalid t e = by-tests (headed (length (t .boot)) (length (t .init))) (not (has 0 (wholeLine (t .boot) (t .init)))) refl refl e
   where
-    by-tests : (a b : Bool) → headed (length (t .boot)) (length (t .init)) ≡ a → not (has 0 (wholeOf (t .boot) (t .init))) ≡ b
+    by-tests : (a b : Bool) → headed (length (t .boot)) (length (t .init)) ≡ a → not (has 0 (wholeLine (t .boot) (t .init))) ≡ b
         → isOpen (textGate t) ≡ false → TextRefused t
     by-tests false b ea eb e = no-boot-args (rw ea)
     by-tests true false ea eb e = null-terminator (rw (ea, eb))

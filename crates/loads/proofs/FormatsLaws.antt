@@ -13,7 +13,7 @@ use Rattle.answers.proofs.PickLaws.{pick-with}
 use Rattle.guest.specs.Addresses.{amountOf}
 use Rattle.guest.specs.Answers.{isLoaded}
 use Rattle.guest.specs.Loading.{Plan, Loads}
-use Rattle.guest.specs.Parts.{Stands, Fits, PartCopied, keptPart, partStream, partsFrom, portionOf}
+use Rattle.guest.specs.Parts.{PartLies, Fits, PartCopied, keptPart, partStream, partsFrom, portionOf}
 use Rattle.guest.specs.Stream.{Poke, Inside, none, pour, streamAt, bytesAt}
 use Rattle.guest.specs.declared.Answer.{Answer}
 use Rattle.guest.specs.declared.Answer.the-variants.{Loaded, Refused}
@@ -121,7 +121,7 @@ module _ (image : List ℕ) (m : Memory) (o : Options) where
   parts-tested is = parts-kept (countOf image o) image m (partOf image o) 0 (λ j le lt. parts-fit is j (omega arith))
 
   -- whatever the image holds by now, a part that was tested lies in it and has room
-  pub parts-stand : (i : ℕ) → Stands (length image) m (testedPart image m o i)
+  pub parts-stand : (i : ℕ) → PartLies (length image) m (testedPart image m o i)
   parts-stand i = kept-stands (length image) m (partOf image o i)
 
   -- what is written lies in guest memory

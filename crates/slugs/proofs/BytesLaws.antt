@@ -9,7 +9,7 @@ use lib.Dec.{leb, eqb}
 use lib.ListN.{length, drop, getD}
 use borrow.Author.Tests.{eq-eqb, ne-eqb, le-leb, lt-leb, leb-true, eqb-false}
 use Rattle.answers.specs.Pick.{pick}
-use Rattle.slugs.specs.Bytes.{blank, printable, every, has, space}
+use Rattle.slugs.specs.Bytes.{blank, printable, allBytes, has, space}
 use Rattle.slugs.proofs.ListLaws.{here, gone}
 
 -- ---- two tests
@@ -33,28 +33,28 @@ either-right false b e = e
 -- ---- a test of every byte, from a place on
 
 module _ (p : ℕ → Bool) (s : List ℕ) (i : ℕ) where
-  pub every-stop : i < length s → p (getD s i 0) ≡ false → every p (drop i s) ≡ false
-  unfolding every
+  pub every-stop : i < length s → p (getD s i 0) ≡ false → allBytes p (drop i s) ≡ false
+  unfolding allBytes
   every-stop h e = rw (here s i h, e)
 
-  pub every-on : i < length s → p (getD s i 0) ≡ true → every p (drop i s) ≡ every p (drop (i + 1) s)
-  unfolding every
+  pub every-on : i < length s → p (getD s i 0) ≡ true → allBytes p (drop i s) ≡ allBytes p (drop (i + 1) s)
+  unfolding allBytes
   every-on h e = rw (here s i h, e)
 
-  pub every-end : length s ≤ i → every p (drop i s) ≡ true
-  unfolding every
+  pub every-end : length s ≤ i → allBytes p (drop i s) ≡ true
+  unfolding allBytes
   every-end h = rw (gone s i h)
 
-pub every-at : (p : ℕ → Bool) (s : List ℕ) (i : ℕ) → every p s ≡ true → i < length s → p (getD s i 0) ≡ true
-unfolding every
+pub every-at : (p : ℕ → Bool) (s : List ℕ) (i : ℕ) → allBytes p s ≡ true → i < length s → p (getD s i 0) ≡ true
+unfolding allBytes
 every-at p [] i e h = absurd (not-suc-le-zero h)
-every-at p (x ∷ xs) zero e h = both-left (p x) (every p xs) e
-every-at p (x ∷ xs) (suc i) e h = every-at p xs i (both-right (p x) (every p xs) e) (le-of-suc-le-suc h)
+every-at p (x ∷ xs) zero e h = both-left (p x) (allBytes p xs) e
+every-at p (x ∷ xs) (suc i) e h = every-at p xs i (both-right (p x) (allBytes p xs) e) (le-of-suc-le-suc h)
 
-pub every-append : (p : ℕ → Bool) (s t : List ℕ) → every p s ≡ true → every p t ≡ true → every p (s ++ t) ≡ true
-unfolding every
+pub every-append : (p : ℕ → Bool) (s t : List ℕ) → allBytes p s ≡ true → allBytes p t ≡ true → allBytes p (s ++ t) ≡ true
+unfolding allBytes
 every-append p [] t a b = b
-every-append p (x ∷ xs) t a b = rw (both-left (p x) (every p xs) a) (every-append p xs t (both-right (p x) (every p xs) a) b)
+every-append p (x ∷ xs) t a b = rw (both-left (p x) (allBytes p xs) a) (every-append p xs t (both-right (p x) (allBytes p xs) a) b)
 
 -- ---- a byte among others, from a place on
 

@@ -14,7 +14,7 @@ use Rattle.answers.specs.Tests.{askedAll, AllHold}
 use Rattle.answers.specs.declared.Refusal.the-variants as refusal
 use Rattle.answers.specs.declared.Gate.{Gate}
 use Rattle.answers.proofs.TestsLaws.{asked-append, hold-left, hold-right}
-use Rattle.slugs.specs.Bytes.{equals, comma, blank, printable, every}
+use Rattle.slugs.specs.Bytes.{equals, comma, blank, printable, allBytes}
 use Rattle.slugs.specs.Trimming.{trimEnd, trim}
 use Rattle.slugs.specs.Keys.{keyTests}
 use Rattle.slugs.specs.Values.{valueTests}
@@ -117,8 +117,8 @@ listed-long mark at (x ∷ xs) s e =
     let n = length-append (part at x s) (listed comma x xs s) in
     omega arith
 
-listed-printable : (mark at : ℕ) (es s : List ℕ) → printable mark ≡ true → AllHold (listTests at es s) → every printable (listed mark at es s) ≡ true
-unfolding listed listTests every printable
+listed-printable : (mark at : ℕ) (es s : List ℕ) → printable mark ≡ true → AllHold (listTests at es s) → allBytes printable (listed mark at es s) ≡ true
+unfolding listed listTests allBytes printable
 listed-printable mark at [] s p h = refl
 listed-printable mark at (x ∷ xs) s p h =
     rw p
@@ -151,7 +151,7 @@ module _ (k s es : List ℕ) (hold : AllHold (listPre k s es)) where
   some : length es ≡ 0 → ⊥
   some z = let l = ltb-true 0 (length es) (rest .0) in omega arith
 
-  pub list-told : (trim (k ++ listed equals 0 es s) ≡ k ++ listed equals 0 es s) × (every printable (k ++ listed equals 0 es s) ≡ true)
+  pub list-told : (trim (k ++ listed equals 0 es s) ≡ k ++ listed equals 0 es s) × (allBytes printable (k ++ listed equals 0 es s) ≡ true)
   unfolding printable
   list-told = (
     list-kept k s es keys some (rest .1),

@@ -9,7 +9,7 @@ use native.Mathlib.Omega.{arith}
 use lib.ListN.{length, getD}
 use Rattle.answers.specs.Pick.{pick}
 use Rattle.answers.proofs.BoolLaws.{both-held, hold-both}
-use Rattle.slugs.specs.Bytes.{blank, every}
+use Rattle.slugs.specs.Bytes.{blank, allBytes}
 use Rattle.slugs.specs.Trimming.{trimStart, trimEnd, before, trim}
 use Rattle.slugs.specs.Trimmed.{Trimmed}
 use Rattle.slugs.proofs.TrimmingLaws.{start-kept, end-kept}
@@ -19,33 +19,33 @@ use Rattle.slugs.proofs.TrimmingLaws.{start-kept, end-kept}
 record StartCut (s t : List ℕ) : Type 0 where
   cut : List ℕ
   whole : s ≡ cut ++ t
-  blanks : every blank cut ≡ true
+  blanks : allBytes blank cut ≡ true
   first : 0 < length t → blank (getD t 0 0) ≡ false
 
 record EndCut (s t : List ℕ) : Type 0 where
   cut : List ℕ
   whole : s ≡ t ++ cut
-  blanks : every blank cut ≡ true
+  blanks : allBytes blank cut ≡ true
   last : 0 < length t → blank (getD t (length t - 1) 0) ≡ false
 
 start-cut : (s : List ℕ) → StartCut s (trimStart s)
-unfolding trimStart every pick
+unfolding trimStart allBytes pick
 start-cut [] = record { cut = []; whole = refl; blanks = refl; first = λ h. absurd (omega arith) }
 start-cut (x ∷ xs) = by (blank x) refl (start-cut xs)
   where
     by : (b : Bool) → blank x ≡ b → StartCut xs (trimStart xs) → StartCut (x ∷ xs) (pick b (trimStart xs) (x ∷ xs))
     by true e c =
-        record { cut = x ∷ c .cut; whole = ap (λ (l : List ℕ). x ∷ l) (c .whole); blanks = hold-both (blank x) (every blank (c .cut)) e (c .blanks); first = c .first }
+        record { cut = x ∷ c .cut; whole = ap (λ (l : List ℕ). x ∷ l) (c .whole); blanks = hold-both (blank x) (allBytes blank (c .cut)) e (c .blanks); first = c .first }
     by false e c = record { cut = []; whole = refl; blanks = refl; first = λ h. e }
 
 end-cut : (s : List ℕ) → EndCut s (trimEnd s)
-unfolding trimEnd before every pick
+unfolding trimEnd before allBytes pick
 end-cut [] = record { cut = []; whole = refl; blanks = refl; last = λ h. absurd (omega arith) }
 end-cut (x ∷ xs) = on (trimEnd xs) (end-cut xs)
   where
     by : (b : Bool) → blank x ≡ b → EndCut xs [] → EndCut (x ∷ xs) (pick b [] (x ∷ []))
     by true e c =
-        record { cut = x ∷ c .cut; whole = ap (λ (l : List ℕ). x ∷ l) (c .whole); blanks = hold-both (blank x) (every blank (c .cut)) e (c .blanks); last = λ h. absurd (omega arith) }
+        record { cut = x ∷ c .cut; whole = ap (λ (l : List ℕ). x ∷ l) (c .whole); blanks = hold-both (blank x) (allBytes blank (c .cut)) e (c .blanks); last = λ h. absurd (omega arith) }
     by false e c = record { cut = c .cut; whole = ap (λ (l : List ℕ). x ∷ l) (c .whole); blanks = c .blanks; last = λ h. e }
 
     on : (t : List ℕ) → EndCut xs t → EndCut (x ∷ xs) (before x t)
@@ -79,23 +79,23 @@ trim-trimmed s =
 
 -- ---- no other text
 
-start-blanks : (a s : List ℕ) → every blank a ≡ true → trimStart (a ++ s) ≡ trimStart s
-unfolding trimStart every pick
+start-blanks : (a s : List ℕ) → allBytes blank a ≡ true → trimStart (a ++ s) ≡ trimStart s
+unfolding trimStart allBytes pick
 start-blanks [] s e = refl
-start-blanks (x ∷ xs) s e = let both = both-held (blank x) (every blank xs) e in rw (both .0) (start-blanks xs s (both .1))
+start-blanks (x ∷ xs) s e = let both = both-held (blank x) (allBytes blank xs) e in rw (both .0) (start-blanks xs s (both .1))
 
-all-blank : (a : List ℕ) → every blank a ≡ true → trimEnd a ≡ []
-unfolding trimEnd before every pick
+all-blank : (a : List ℕ) → allBytes blank a ≡ true → trimEnd a ≡ []
+unfolding trimEnd before allBytes pick
 all-blank [] e = refl
-all-blank (x ∷ xs) e = let both = both-held (blank x) (every blank xs) e in rw (all-blank xs (both .1), both .0)
+all-blank (x ∷ xs) e = let both = both-held (blank x) (allBytes blank xs) e in rw (all-blank xs (both .1), both .0)
 
-end-blanks : (s a : List ℕ) → every blank a ≡ true → trimEnd (s ++ a) ≡ trimEnd s
+end-blanks : (s a : List ℕ) → allBytes blank a ≡ true → trimEnd (s ++ a) ≡ trimEnd s
 unfolding trimEnd
 end-blanks [] a e = all-blank a e
 end-blanks (x ∷ xs) a e = ap (before x) (end-blanks xs a e)
 
 -- blanks alone are trimmed to nothing; else the text ends the blanks on both sides
-trimmed-text : (t after : List ℕ) → every blank after ≡ true → (0 < length t → blank (getD t 0 0) ≡ false)
+trimmed-text : (t after : List ℕ) → allBytes blank after ≡ true → (0 < length t → blank (getD t 0 0) ≡ false)
     → (0 < length t → blank (getD t (length t - 1) 0) ≡ false) → trim (t ++ after) ≡ t
 unfolding trimEnd trimStart
 trimmed-text [] after e first last = ap trimEnd (ap trimStart (sym (append-nil after)) ∙ start-blanks after [] e)

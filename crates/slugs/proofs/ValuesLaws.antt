@@ -10,7 +10,7 @@ use borrow.Author.Tests.{eq-eqb, ne-eqb, le-leb, lt-leb, eqb-true, eqb-false, no
 use Rattle.answers.specs.Pick.{pick}
 use Rattle.answers.specs.Tests.{AllHold}
 use Rattle.answers.proofs.TestsLaws.{hold-left, hold-right}
-use Rattle.slugs.specs.Bytes.{space, quote, equals, blank, printable, every, has}
+use Rattle.slugs.specs.Bytes.{space, quote, equals, blank, printable, allBytes, has}
 use Rattle.slugs.specs.Trimming.{trimEnd, trim}
 use Rattle.slugs.specs.Keys.{keyTests}
 use Rattle.slugs.specs.Values.{inner, quoted, protected, valueTests, pair}
@@ -57,7 +57,7 @@ module _ (s : List ℕ) where
 
 -- ---- what the tests say where all hold
 
-pub key-printable : (k : List ℕ) → AllHold (keyTests k) → every printable k ≡ true
+pub key-printable : (k : List ℕ) → AllHold (keyTests k) → allBytes printable k ≡ true
 unfolding keyTests
 key-printable k h = h .0
 
@@ -65,7 +65,7 @@ pub key-plain : (k : List ℕ) → AllHold (keyTests k) → has space k ≡ fals
 unfolding keyTests
 key-plain k h = not-true (has space k) (h .1 .0)
 
-pub value-printable : (v : List ℕ) → AllHold (valueTests v) → every printable v ≡ true
+pub value-printable : (v : List ℕ) → AllHold (valueTests v) → allBytes printable v ≡ true
 unfolding valueTests
 value-printable v h = h .0
 
@@ -112,8 +112,8 @@ pub key-kept : (k : List ℕ) (m : ℕ) (v : List ℕ) → blank m ≡ false →
 key-kept k m v b h t = rw (start-kept (k ++ (m ∷ v)) (first-key k m v b h)) (end-append k m v t)
 
 -- where the tests of a key and a value hold, trimming leaves key, equals sign and value as they are, and they are printable
-pub pair-told : (k v : List ℕ) → AllHold (keyTests k ++ valueTests v) → (trim (pair k v) ≡ pair k v) × (every printable (pair k v) ≡ true)
-unfolding blank every printable
+pub pair-told : (k v : List ℕ) → AllHold (keyTests k ++ valueTests v) → (trim (pair k v) ≡ pair k v) × (allBytes printable (pair k v) ≡ true)
+unfolding blank allBytes printable
 pair-told k v h =
     let hk = hold-left (keyTests k) (valueTests v) h in
     let hv = hold-right (keyTests k) (valueTests v) h in

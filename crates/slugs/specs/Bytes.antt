@@ -32,9 +32,9 @@ unfoldable pub blank : ℕ → Bool
 blank x = eqb x 32 || (leb 9 x && leb x 13)
 
 -- the test holds at every byte
-unfoldable pub every : (ℕ → Bool) → List ℕ → Bool
-every p [] = true
-every p (x ∷ xs) = p x && every p xs
+unfoldable pub allBytes : (ℕ → Bool) → List ℕ → Bool
+allBytes p [] = true
+allBytes p (x ∷ xs) = p x && allBytes p xs
 
 -- b is among the bytes
 unfoldable pub has : ℕ → List ℕ → Bool

@@ -7,7 +7,7 @@ use lib.ListN.{length, take, drop, getD}
 use Rattle.answers.specs.Pick.{pick}
 use Rattle.answers.specs.Tests.{Test}
 use Rattle.answers.specs.declared.Refusal.the-variants as refusal
-use Rattle.slugs.specs.Bytes.{space, quote, equals, printable, every, has}
+use Rattle.slugs.specs.Bytes.{space, quote, equals, printable, allBytes, has}
 
 -- the bytes strictly between the first and the last
 abbrev pub inner : List ℕ → List ℕ
@@ -24,7 +24,7 @@ protected s = pick (has space s) (quoted s) true
 -- printable bytes, no quote strictly inside, no space unless quoted
 unfoldable pub valueTests : List ℕ → List Test
 valueTests value =
-    (every printable value, refusal.InvalidAscii)
+    (allBytes printable value, refusal.InvalidAscii)
     ∷ (not (has quote (inner value)), refusal.InvalidQuote)
     ∷ (protected value, refusal.NoQuoteSpace)
     ∷ []

@@ -11,7 +11,7 @@ ghost use mathlib.Core.Path.{_≡_};
 ghost use mathlib.Core.Bool.{true};
 ghost use lib.Dec.{eqb};
 ghost use Rattle.answers.specs.Pick.{pick};
-ghost use Rattle.slugs.specs.Bytes.{blank, printable, every, has};
+ghost use Rattle.slugs.specs.Bytes.{blank, printable, allBytes, has};
 
 // A tab, a line end, a space: what trimming takes.
 pub fn is_blank(byte: u8) -> bool
@@ -36,7 +36,7 @@ pub fn is_printable(byte: u8) -> bool
 }
 
 pub fn all_printable(s: &[u8]) -> bool
-    ensures { λ r. ⌜ r ≡ every printable (now (s .entry)) ⌝ }
+    ensures { λ r. ⌜ r ≡ allBytes printable (now (s .entry)) ⌝ }
 {
     let mut i = 0;
     while i < s.len() {

@@ -9,7 +9,6 @@ use Rattle.answers.specs.Tests.{AllHold}
 use Rattle.fields.specs.Ranges.{apart}
 use Rattle.fields.specs.Rows.{fieldWidth, rowsBytes, rowsLength, areRows}
 use Rattle.fields.proofs.RowsLaws.{rows-length}
-use Rattle.guest.specs.Lent.{memoryTests}
 use Rattle.guest.specs.declared.Memory.{Memory}
 use Rattle.start_info.specs.declared.Start.{Start}
 use Rattle.start_info.specs.Kinds.{blockWidths, moduleWidths, rangeWidths, blockSize, countOf, reservedAreZero}
@@ -30,9 +29,6 @@ unfolding rowsLength fieldWidth
 block-bytes start modules ranges = rows-length (fieldWidth blockWidths) (blockOf start modules ranges) 0
 
 module _ (m : Memory) (start : Start) (modules ranges : List ℕ) (hold : AllHold (tests m start modules ranges)) where
-  pub lent : AllHold (memoryTests m)
-  lent = (hold .0, (hold .1 .0, tt))
-
   pub modules-are : areRows moduleWidths modules ≡ true
   modules-are = hold .1 .1 .0
 
@@ -62,22 +58,22 @@ module _ (m : Memory) (start : Start) (modules ranges : List ℕ) (hold : AllHol
   pub ranges-size : length (bytesOf rangeWidths ranges) ≡ listSize rangeWidths ranges
   ranges-size = list-bytes rangeWidths ranges refl ranges-are few-ranges
 
-  pub block-lies : lies m (start .block) blockSize ≡ true
+  pub block-lies : lies m (start .block .0) blockSize ≡ true
   block-lies = parts .1 .1 .0
 
-  pub modules-lie : lies m (start .modules) (listSize moduleWidths modules) ≡ true
+  pub modules-lie : lies m (start .modules .0) (listSize moduleWidths modules) ≡ true
   modules-lie = parts .1 .1 .1 .0
 
-  pub ranges-lie : lies m (start .ranges) (listSize rangeWidths ranges) ≡ true
+  pub ranges-lie : lies m (start .ranges .0) (listSize rangeWidths ranges) ≡ true
   ranges-lie = parts .1 .1 .1 .1 .0
 
   -- no two parts overlap, told by the lengths of their bytes
 
-  pub block-modules : apart (start .block) (length (blockBytes start modules ranges)) (start .modules) (length (bytesOf moduleWidths modules)) ≡ true
+  pub block-modules : apart (start .block .0) (length (blockBytes start modules ranges)) (start .modules .0) (length (bytesOf moduleWidths modules)) ≡ true
   block-modules = rw (block-bytes start modules ranges, modules-size) (parts .1 .1 .1 .1 .1 .0)
 
-  pub block-ranges : apart (start .block) (length (blockBytes start modules ranges)) (start .ranges) (length (bytesOf rangeWidths ranges)) ≡ true
+  pub block-ranges : apart (start .block .0) (length (blockBytes start modules ranges)) (start .ranges .0) (length (bytesOf rangeWidths ranges)) ≡ true
   block-ranges = rw (block-bytes start modules ranges, ranges-size) (parts .1 .1 .1 .1 .1 .1 .0)
 
-  pub modules-ranges : apart (start .modules) (length (bytesOf moduleWidths modules)) (start .ranges) (length (bytesOf rangeWidths ranges)) ≡ true
+  pub modules-ranges : apart (start .modules .0) (length (bytesOf moduleWidths modules)) (start .ranges .0) (length (bytesOf rangeWidths ranges)) ≡ true
   modules-ranges = rw (modules-size, ranges-size) (parts .1 .1 .1 .1 .1 .1 .1 .0)

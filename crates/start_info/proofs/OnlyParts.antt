@@ -33,10 +33,10 @@ plan-inside m start modules ranges =
     (λ hold.
     inside-append
     (inside-append
-    (part-inside m (start .block) blockSize (blockBytes start modules ranges) (block-bytes start modules ranges) (block-lies m start modules ranges hold))
-    (part-inside m (start .modules) (listSize moduleWidths modules) (bytesOf moduleWidths modules) (modules-size m start modules ranges hold)
+    (part-inside m (start .block .0) blockSize (blockBytes start modules ranges) (block-bytes start modules ranges) (block-lies m start modules ranges hold))
+    (part-inside m (start .modules .0) (listSize moduleWidths modules) (bytesOf moduleWidths modules) (modules-size m start modules ranges hold)
     (modules-lie m start modules ranges hold)))
-    (part-inside m (start .ranges) (listSize rangeWidths ranges) (bytesOf rangeWidths ranges) (ranges-size m start modules ranges hold)
+    (part-inside m (start .ranges .0) (listSize rangeWidths ranges) (bytesOf rangeWidths ranges) (ranges-size m start modules ranges hold)
     (ranges-lie m start modules ranges hold)))
 
 -- stores at places that are not those of this byte
@@ -45,16 +45,16 @@ outside bytes s at n a e out = sets-outside bytes s at a (λ low high. out (reco
 
 module _ (start : Start) (modules ranges : List ℕ) (map : Map) (before : List ℕ) {r : Gate} {after : List ℕ}
     (writes : Writes start modules ranges map before r after) where
-  pub only-parts : r ≡ Open → (a : ℕ) → (Among a (start .block) blockSize → ⊥) → (Among a (start .modules) (listSize moduleWidths modules) → ⊥)
-      → (Among a (start .ranges) (listSize rangeWidths ranges) → ⊥) → getD after a 0 ≡ getD before a 0
+  pub only-parts : r ≡ Open → (a : ℕ) → (Among a (start .block .0) blockSize → ⊥) → (Among a (start .modules .0) (listSize moduleWidths modules) → ⊥)
+      → (Among a (start .ranges .0) (listSize rangeWidths ranges) → ⊥) → getD after a 0 ≡ getD before a 0
   only-parts e a no-block no-modules no-ranges =
       let hold = where-written start modules ranges map before writes e in
       let m = memoryOf before map in
-      let first = sets before (start .block) (blockBytes start modules ranges) in
+      let first = sets before (start .block .0) (blockBytes start modules ranges) in
       ap (λ (l : List ℕ). getD l a 0) (written-where start modules ranges map before writes hold .1 ∙ poured-put start modules ranges before)
-      ∙ outside (bytesOf rangeWidths ranges) (sets first (start .modules) (bytesOf moduleWidths modules)) (start .ranges) (listSize rangeWidths ranges) a (ranges-size m start modules ranges hold) no-ranges
-      ∙ outside (bytesOf moduleWidths modules) first (start .modules) (listSize moduleWidths modules) a (modules-size m start modules ranges hold) no-modules
-      ∙ outside (blockBytes start modules ranges) before (start .block) blockSize a (block-bytes start modules ranges) no-block
+      ∙ outside (bytesOf rangeWidths ranges) (sets first (start .modules .0) (bytesOf moduleWidths modules)) (start .ranges .0) (listSize rangeWidths ranges) a (ranges-size m start modules ranges hold) no-ranges
+      ∙ outside (bytesOf moduleWidths modules) first (start .modules .0) (listSize moduleWidths modules) a (modules-size m start modules ranges hold) no-modules
+      ∙ outside (blockBytes start modules ranges) before (start .block .0) blockSize a (block-bytes start modules ranges) no-block
 
   pub holes-untouched : (a : ℕ) → inRanges (rangesOf map) a 1 ≡ false → getD after a 0 ≡ getD before a 0
   holes-untouched =

@@ -20,7 +20,7 @@ pub check-one : OneOutcome 1 check-kinds.ps check-kinds.r check-reads.Post
 check-one κs a z z' ws ws' p q = (meet p q, refl)
 
 pub read-block-one : OneOutcome 2 read-block-kinds.ps read-block-kinds.r read-block-reads.Post
-read-block-one κs a z z' ws ws' p q = (refl, first (meet p q))
+read-block-one κs a z z' ws ws' p q = (meet (p .answer) (q .answer), first (meet (p .numbers) (q .numbers)))
 
 pub read-modules-one : OneOutcome 2 read-modules-kinds.ps read-modules-kinds.r read-modules-reads.Post
 read-modules-one κs a z z' ws ws' p q = (refl, first (meet p q))

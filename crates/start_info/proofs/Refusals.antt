@@ -15,7 +15,7 @@ use Rattle.guest.specs.Stream.{pour}
 use Rattle.guest.specs.declared.Map.{Map}
 use Rattle.guest.proofs.LoadingLaws.{all-planned, first-planned, behind-with, nothing-written}
 use Rattle.start_info.specs.declared.Start.{Start}
-use Rattle.start_info.specs.Answers.{writtenNumber}
+use Rattle.start_info.specs.Answers.{gateNumber}
 use Rattle.start_info.specs.Writing.{tests, startPlan, planOf, Writes}
 
 module _ (start : Start) (modules ranges : List ℕ) (map : Map) (before : List ℕ) {r : Gate} {after : List ℕ}
@@ -49,10 +49,10 @@ module _ (start : Start) (modules ranges : List ℕ) (map : Map) (before : List 
       (ap (λ (p : Plan Gate). p .stream) (first-planned Shut row plan (where-refused e)))
 
   -- the same by the catalogue
-  pub written-number : AllHold row → writtenNumber r ≡ 0
-  unfolding writtenNumber
-  written-number h = ap writtenNumber (written-where h .0)
+  pub written-number : AllHold row → gateNumber r ≡ 0
+  unfolding gateNumber
+  written-number h = ap gateNumber (written-where h .0)
 
-  pub refused-number : {refusal : Refusal} → FirstFails refusal row → writtenNumber r ≡ numberOf refusal
-  unfolding writtenNumber
-  refused-number f = ap writtenNumber (refused-where f)
+  pub refused-number : {refusal : Refusal} → FirstFails refusal row → gateNumber r ≡ numberOf refusal
+  unfolding gateNumber
+  refused-number f = ap gateNumber (refused-where f)

@@ -18,23 +18,23 @@ use Rattle.start_info.specs.Kinds.{blockWidths, moduleWidths, rangeWidth
 use Rattle.start_info.specs.Writing.{tests, blockOf, streamOf, startPlan, Writes}
 
 -- three runs of stores are the pouring of the plan's stream
-pub all-put : (start : Start) (modules ranges g : List ℕ) {p q r : List ℕ} → p ≡ sets g (start .block) (rowsBytes (fieldWidth blockWidths) (blockOf start modules ranges) 0)
-    → q ≡ sets p (start .modules) (rowsBytes (fieldWidth moduleWidths) modules 0) → r ≡ sets q (start .ranges) (rowsBytes (fieldWidth rangeWidths) ranges 0)
+pub all-put : (start : Start) (modules ranges g : List ℕ) {p q r : List ℕ} → p ≡ sets g (start .block .0) (rowsBytes (fieldWidth blockWidths) (blockOf start modules ranges) 0)
+    → q ≡ sets p (start .modules .0) (rowsBytes (fieldWidth moduleWidths) modules 0) → r ≡ sets q (start .ranges .0) (rowsBytes (fieldWidth rangeWidths) ranges 0)
     → r ≡ pour (startPlan start modules ranges .stream) g
 all-put start modules ranges g {p} {q} ep eq er =
-    let block = streamOf blockWidths (blockOf start modules ranges) (start .block) in
-    let first = streamOf moduleWidths modules (start .modules) in
-    let second = streamOf rangeWidths ranges (start .ranges) in
+    let block = streamOf blockWidths (blockOf start modules ranges) (start .block .0) in
+    let first = streamOf moduleWidths modules (start .modules .0) in
+    let second = streamOf rangeWidths ranges (start .ranges .0) in
     er
-    ∙ sym (pour-at (rowsBytes (fieldWidth rangeWidths) ranges 0) q (start .ranges))
-    ∙ ap (pour second) (eq ∙ sym (pour-at (rowsBytes (fieldWidth moduleWidths) modules 0) p (start .modules)))
-    ∙ ap (λ (l : List ℕ). pour second (pour first l)) (ep ∙ sym (pour-at (rowsBytes (fieldWidth blockWidths) (blockOf start modules ranges) 0) g (start .block)))
+    ∙ sym (pour-at (rowsBytes (fieldWidth rangeWidths) ranges 0) q (start .ranges .0))
+    ∙ ap (pour second) (eq ∙ sym (pour-at (rowsBytes (fieldWidth moduleWidths) modules 0) p (start .modules .0)))
+    ∙ ap (λ (l : List ℕ). pour second (pour first l)) (ep ∙ sym (pour-at (rowsBytes (fieldWidth blockWidths) (blockOf start modules ranges) 0) g (start .block .0)))
     ∙ sym (pour-append (block ++ first) second g ∙ ap (pour second) (pour-append block first g))
 
 -- and the pouring is the three runs
 pub poured-put : (start : Start) (modules ranges g : List ℕ)
     → pour (startPlan start modules ranges .stream) g
-    ≡ sets (sets (sets g (start .block) (rowsBytes (fieldWidth blockWidths) (blockOf start modules ranges) 0)) (start .modules) (rowsBytes (fieldWidth moduleWidths) modules 0)) (start .ranges)
+    ≡ sets (sets (sets g (start .block .0) (rowsBytes (fieldWidth blockWidths) (blockOf start modules ranges) 0)) (start .modules .0) (rowsBytes (fieldWidth moduleWidths) modules 0)) (start .ranges .0)
     (rowsBytes (fieldWidth rangeWidths) ranges 0)
 poured-put start modules ranges g = sym (all-put start modules ranges g refl refl refl)
 

@@ -29,12 +29,12 @@ abbrev pub partTests : Memory → Start → List ℕ → List ℕ → List Test
 partTests m start modules ranges =
     (ltb (countOf modules) countEnd, BadPart)
     ∷ (ltb (countOf ranges) countEnd, BadPart)
-    ∷ (lies m (start .block) blockSize, BadPart)
-    ∷ (lies m (start .modules) (listSize moduleWidths modules), BadPart)
-    ∷ (lies m (start .ranges) (listSize rangeWidths ranges), BadPart)
-    ∷ (apart (start .block) blockSize (start .modules) (listSize moduleWidths modules), BadPart)
-    ∷ (apart (start .block) blockSize (start .ranges) (listSize rangeWidths ranges), BadPart)
-    ∷ (apart (start .modules) (listSize moduleWidths modules) (start .ranges) (listSize rangeWidths ranges), BadPart)
+    ∷ (lies m (start .block .0) blockSize, BadPart)
+    ∷ (lies m (start .modules .0) (listSize moduleWidths modules), BadPart)
+    ∷ (lies m (start .ranges .0) (listSize rangeWidths ranges), BadPart)
+    ∷ (apart (start .block .0) blockSize (start .modules .0) (listSize moduleWidths modules), BadPart)
+    ∷ (apart (start .block .0) blockSize (start .ranges .0) (listSize rangeWidths ranges), BadPart)
+    ∷ (apart (start .modules .0) (listSize moduleWidths modules) (start .ranges .0) (listSize rangeWidths ranges), BadPart)
     ∷ []
 
 abbrev pub tests : Memory → Start → List ℕ → List ℕ → List Test
@@ -50,10 +50,10 @@ blockOf start modules ranges =
     ∷ version
     ∷ start .flags
     ∷ countOf modules
-    ∷ start .modules
-    ∷ start .«command_line»
-    ∷ start .rsdp
-    ∷ start .ranges
+    ∷ start .modules .0
+    ∷ start .«command_line» .0
+    ∷ start .rsdp .0
+    ∷ start .ranges .0
     ∷ countOf ranges
     ∷ 0
     ∷ []
@@ -67,9 +67,9 @@ abbrev pub startPlan : Start → List ℕ → List ℕ → Plan Gate
 startPlan start modules ranges =
     record {
       answer = Open;
-      stream = streamOf blockWidths (blockOf start modules ranges) (start .block)
-          ++ streamOf moduleWidths modules (start .modules)
-          ++ streamOf rangeWidths ranges (start .ranges);
+      stream = streamOf blockWidths (blockOf start modules ranges) (start .block .0)
+          ++ streamOf moduleWidths modules (start .modules .0)
+          ++ streamOf rangeWidths ranges (start .ranges .0);
     }
 
 abbrev pub planOf : Memory → Start → List ℕ → List ℕ → Plan Gate

@@ -1,67 +1,100 @@
-// What the checker asks of a block that stands in guest memory.
+// The tests of a block in guest memory, no matter who wrote it.
 ghost use mathlib.Core.Path.{_≡_};
-ghost use Prim.Native.Nat.{_+_, _<_, _^_};
-ghost use mathlib.Core.Bool.{_&&_};
+ghost use mathlib.Core.List.{[], _∷_};
+ghost use Prim.Native.Nat.{_+_, min};
+ghost use Rattle.answers.specs.Tests.{askedAll};
+ghost use Rattle.answers.specs.declared.Gate.the-variants.{Open};
+ghost use Rattle.answers.specs.declared.Refusal.the-variants.{BadPart, BadStartReserved};
+ghost use Rattle.fields.specs.Numbers.{ReadAs};
 ghost use Rattle.fields.specs.Rows.{fieldWidth, rowsNumbers};
-ghost use Rattle.start_info.specs.Kinds.{blockSize, reservedAreZero};
+ghost use Rattle.start_info.specs.Kinds.{reservedAreZero};
 ghost use Rattle.start_info.specs.Parts.{lies};
-ghost use Rattle.start_info.specs.Checking.{headIsRight, listsAreRight, accepts};
+ghost use Rattle.start_info.specs.Checking.{blockTests, checkTests};
 use crate::kinds;
 use crate::parts;
+use answers::Gate;
+use answers::Refusal;
 use fields::numbers;
+use fields::ranges;
+use guest::GuestAddress;
 use guest::Memory;
+use guest::lent;
 
-// Magic, version, and the block's own reserved field.
-fn is_head(guest: &[u8], block: u64) -> bool
-    requires { ⌜ block + blockSize < 2 ^ 64 ⌝ }
-    ensures { λ r. ⌜ r ≡ headIsRight (now (guest .entry)) block ⌝ }
+// A field of the block, of `width` bytes at an offset.
+fn field(guest: &[u8], block: GuestAddress, at: u64, width: u64) -> u64
+    ensures { λ r. ⌜ ReadAs (min width 8) (now (guest .entry)) (block .0 + at) r ⌝ }
 {
-    if numbers::read_u32(guest, block) != kinds::MAGIC {
-        return false;
-    }
-    if numbers::read_u32(guest, block + kinds::VERSION_AT) != kinds::VERSION {
-        return false;
-    }
-    numbers::read_u32(guest, block + kinds::RESERVED_AT) == 0
+    let place = ranges::sum_up_to(guest.len() as u64, block.0, at);
+    numbers::read_le(guest, place, width)
 }
 
-// A list of `fields` numbers in `size` bytes: it lies in guest memory, and its reserved numbers are 0.
-fn is_list(
+// A list of `fields` numbers in `size` bytes: it lies in guest memory, and its reserved numbers are 0. It is read only if
+// no test refused.
+fn ask_list(
+    gate: Gate,
     guest: &[u8],
     memory: Memory,
     widths: &[u64],
-    address: u64,
+    address: GuestAddress,
     size: u64,
     fields: u64,
-) -> bool
-    ensures { λ r. ⌜ r ≡ (lies memory address size && reservedAreZero (rowsNumbers (fieldWidth (now (widths .entry))) fields (now (guest .entry)) address 0)) ⌝ }
+) -> Gate
+    ensures { λ r. ⌜ r ≡ askedAll gate ((lies memory (address .0) size, BadPart) ∷ (reservedAreZero (rowsNumbers (fieldWidth (now (widths .entry))) fields (now (guest .entry)) (address .0) 0), BadStartReserved) ∷ []) ⌝ }
 {
-    if !parts::lies_in(memory, address, size) {
-        return false;
+    let gate = answers::require(
+        gate,
+        parts::lies_in(memory, address, size),
+        Refusal::BadPart,
+    );
+    match gate {
+        Gate::Shut(_) => gate,
+        Gate::Open => {
+            answers::require(
+                gate,
+                kinds::stand_zero(guest, address, widths, fields),
+                Refusal::BadStartReserved,
+            )
+        }
     }
-    kinds::stand_zero(guest, address, widths, fields)
 }
 
-// The modules and the memory map, where the block says that they are.
-fn are_lists(guest: &[u8], memory: Memory, block: u64) -> bool
-    requires { ⌜ block + blockSize < 2 ^ 64 ⌝ }
-    ensures { λ r. ⌜ r ≡ listsAreRight memory (now (guest .entry)) block ⌝ }
+// The block itself: it lies in guest memory; magic, version and reserved field.
+fn ask_block(gate: Gate, guest: &[u8], memory: Memory, block: GuestAddress) -> Gate
+    ensures { λ r. ⌜ r ≡ askedAll gate (blockTests memory (now (guest .entry)) (block .0)) ⌝ }
 {
-    let modules = numbers::read_u64(guest, block + kinds::MODULES_AT);
-    let m = numbers::read_u32(guest, block + kinds::MODULE_COUNT_AT);
-    if !is_list(
+    let gate = answers::require(
+        gate,
+        parts::lies_in(memory, block, kinds::BLOCK_SIZE),
+        Refusal::BadPart,
+    );
+    let magic = numbers::read_u32(guest, block.0);
+    let gate = answers::require(gate, magic == kinds::MAGIC, Refusal::BadStartMagic);
+    let version = field(guest, block, kinds::VERSION_AT, 4);
+    let gate = answers::require(gate, version == kinds::VERSION, Refusal::BadStartVersion);
+    let reserved = field(guest, block, kinds::RESERVED_AT, 4);
+    answers::require(gate, reserved == 0, Refusal::BadStartReserved)
+}
+
+pub(crate) fn ask(guest: &[u8], memory: Memory, block: GuestAddress) -> Gate
+    ensures { λ r. ⌜ r ≡ askedAll Open (checkTests memory (now (guest .entry)) (block .0)) ⌝ }
+{
+    let gate = lent::ask_memory(Gate::Open, memory);
+    let gate = ask_block(gate, guest, memory, block);
+    let modules = GuestAddress(field(guest, block, kinds::MODULES_AT, 8));
+    let m = field(guest, block, kinds::MODULE_COUNT_AT, 4);
+    let gate = ask_list(
+        gate,
         guest,
         memory,
         &kinds::MODULE,
         modules,
         m * kinds::MODULE_SIZE,
         m * 4,
-    ) {
-        return false;
-    }
-    let ranges = numbers::read_u64(guest, block + kinds::RANGES_AT);
-    let n = numbers::read_u32(guest, block + kinds::RANGE_COUNT_AT);
-    is_list(
+    );
+    let ranges = GuestAddress(field(guest, block, kinds::RANGES_AT, 8));
+    let n = field(guest, block, kinds::RANGE_COUNT_AT, 4);
+    ask_list(
+        gate,
         guest,
         memory,
         &kinds::RANGE,
@@ -69,16 +102,4 @@ fn are_lists(guest: &[u8], memory: Memory, block: u64) -> bool
         n * kinds::RANGE_SIZE,
         n * 4,
     )
-}
-
-pub(crate) fn is_accepted(guest: &[u8], memory: Memory, block: u64) -> bool
-    ensures { λ r. ⌜ r ≡ accepts memory (now (guest .entry)) block ⌝ }
-{
-    if !parts::lies_in(memory, block, kinds::BLOCK_SIZE) {
-        return false;
-    }
-    if !is_head(guest, block) {
-        return false;
-    }
-    are_lists(guest, memory, block)
 }

@@ -7,6 +7,7 @@ ghost use Rattle.start_info.specs.Parts.{countEnd};
 use fields::numbers;
 use fields::ranges;
 use fields::rows;
+use guest::GuestAddress;
 
 // magic, version, flags, module count; module list, command line, RSDP, memory map; map count, reserved
 pub(crate) const BLOCK: [u64; 10] = [4, 4, 4, 4, 8, 8, 8, 8, 4, 4];
@@ -39,6 +40,9 @@ pub(crate) const RANGES_AT: u64 = 40;
 pub(crate) const RANGE_COUNT_AT: u64 = 48;
 
 pub(crate) const RESERVED_AT: u64 = 52;
+
+// How many numbers the block has.
+pub(crate) const BLOCK_FIELDS: usize = 10;
 
 // How many numbers a row of either list has.
 pub(crate) const FIELDS: usize = 4;
@@ -78,13 +82,13 @@ pub(crate) fn are_zero(list: &[u64]) -> bool
     true
 }
 
-// Are those of n numbers that stand at a place 0?
-pub(crate) fn stand_zero(s: &[u8], at: u64, widths: &[u64], n: u64) -> bool
-    ensures { λ r. ⌜ r ≡ reservedAreZero (rowsNumbers (fieldWidth (now (widths .entry))) n (now (s .entry)) at 0) ⌝ }
+// Are those of n numbers at a guest address 0?
+pub(crate) fn stand_zero(s: &[u8], at: GuestAddress, widths: &[u64], n: u64) -> bool
+    ensures { λ r. ⌜ r ≡ reservedAreZero (rowsNumbers (fieldWidth (now (widths .entry))) n (now (s .entry)) (at .0) 0) ⌝ }
 {
     let end = s.len() as u64;
     let count = n as usize;
-    let mut p = at;
+    let mut p = at.0;
     let mut i = 0;
     while i < count {
         let width = rows::field_width(widths, i);

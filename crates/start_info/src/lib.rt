@@ -2,16 +2,15 @@
 ghost use mathlib.Core.Path.{_≡_};
 ghost use lib.ListN.{length};
 ghost use Rattle.fields.specs.Rows.{fieldWidth, rowsNumbers};
-ghost use Rattle.start_info.specs.Kinds.{blockWidths, moduleWidths, rangeWidths};
+ghost use Rattle.start_info.specs.Kinds.{moduleWidths, rangeWidths};
 ghost use Rattle.start_info.specs.Writing.{Writes};
-ghost use Rattle.start_info.specs.Checking.{checkOf};
+ghost use Rattle.start_info.specs.Checking.{checkOf, BlockReads};
 use answers::Gate;
 use answers::Refusal;
 use fields::rows;
 use guest::GuestAddress;
 use guest::Map;
 use guest::Memory;
-use guest::lent;
 
 mod checking;
 mod kinds;
@@ -20,18 +19,12 @@ mod writing;
 
 // The addresses of block, modules and memory map, and what else the block says: flags, the addresses of command line and RSDP.
 pub struct Start {
-    pub block: u64,
-    pub modules: u64,
-    pub ranges: u64,
+    pub block: GuestAddress,
+    pub modules: GuestAddress,
+    pub ranges: GuestAddress,
     pub flags: u32,
-    pub command_line: u64,
-    pub rsdp: u64,
-}
-
-pub enum Answer {
-    Accepted,
-    NotAccepted,
-    Refused(Refusal),
+    pub command_line: GuestAddress,
+    pub rsdp: GuestAddress,
 }
 
 // Writes the block and its lists. A row is four numbers, the last of which is reserved and 0: a module's are address, size and command line,
@@ -53,35 +46,31 @@ pub fn write(guest: &mut [u8], map: Map, start: Start, modules: &[u64], ranges: 
     }
 }
 
-// Checks the block at an address, whoever wrote it.
-pub fn check(guest: &[u8], map: Map, block: GuestAddress) -> Answer
+// Checks the block at an address, no matter who wrote it: an open gate says that it is accepted, a shut one what is wrong
+// first.
+pub fn check(guest: &[u8], map: Map, block: GuestAddress) -> Gate
     ensures { λ r. ⌜ r ≡ checkOf map (now (guest .entry)) (block .0) ⌝ }
 {
     let memory = Memory {
         size: guest.len() as u64,
         map: map,
     };
-    let gate = lent::ask_memory(Gate::Open, memory);
-    match gate {
-        Gate::Shut(refusal) => Answer::Refused(refusal),
-        Gate::Open => {
-            if checking::is_accepted(guest, memory, block.0) {
-                Answer::Accepted
-            } else {
-                Answer::NotAccepted
-            }
-        }
-    }
+    checking::ask(guest, memory, block)
 }
 
-// Reads the ten numbers of a block, as many as the list takes; a byte past the end is read as 0.
-pub fn read_block(numbers: &mut [u64], guest: &[u8], block: GuestAddress)
-    ensures { λ _. ⌜ now (numbers .exit) ≡ rowsNumbers (fieldWidth blockWidths) (length (now (numbers .entry))) (now (guest .entry)) (block .0) 0 ⌝ }
+// Reads the ten numbers of a block into a list of ten; a byte past the end is read as 0. A list of another length is
+// refused and left as it was.
+pub fn read_block(numbers: &mut [u64], guest: &[u8], block: GuestAddress) -> Gate
+    ensures { λ r. ⌜ BlockReads (now (guest .entry)) (block .0) (now (numbers .entry)) r (now (numbers .exit)) ⌝ }
 {
+    if numbers.len() != kinds::BLOCK_FIELDS {
+        return Gate::Shut(Refusal::NoRoom);
+    }
     rows::read_rows(numbers, guest, block.0, &kinds::BLOCK);
+    Gate::Open
 }
 
-// Reads the numbers of modules in the same way.
+// Reads the numbers of modules at an address, as many as the list takes; a byte past the end is read as 0.
 pub fn read_modules(numbers: &mut [u64], guest: &[u8], modules: GuestAddress)
     ensures { λ _. ⌜ now (numbers .exit) ≡ rowsNumbers (fieldWidth moduleWidths) (length (now (numbers .entry))) (now (guest .entry)) (modules .0) 0 ⌝ }
 {

@@ -6,11 +6,11 @@ use guest::Memory;
 use guest::room;
 
 // Does a part of n bytes lie in guest memory, in one of its ranges? One of no bytes lies anywhere.
-pub(crate) fn lies_in(memory: Memory, address: u64, n: u64) -> bool
-    ensures { λ r. ⌜ r ≡ lies memory address n ⌝ }
+pub(crate) fn lies_in(memory: Memory, address: GuestAddress, n: u64) -> bool
+    ensures { λ r. ⌜ r ≡ lies memory (address .0) n ⌝ }
 {
     if n == 0 {
         return true;
     }
-    room::has_room(memory, GuestAddress(address), n)
+    room::has_room(memory, address, n)
 }

@@ -49,17 +49,17 @@ fn ask_parts(gate: Gate, memory: Memory, start: Start, modules: &[u64], ranges: 
     );
     let gate = answers::require(
         gate,
-        addresses::are_apart(start.block, kinds::BLOCK_SIZE, start.modules, m),
+        addresses::are_apart(start.block.0, kinds::BLOCK_SIZE, start.modules.0, m),
         Refusal::BadPart,
     );
     let gate = answers::require(
         gate,
-        addresses::are_apart(start.block, kinds::BLOCK_SIZE, start.ranges, n),
+        addresses::are_apart(start.block.0, kinds::BLOCK_SIZE, start.ranges.0, n),
         Refusal::BadPart,
     );
     answers::require(
         gate,
-        addresses::are_apart(start.modules, m, start.ranges, n),
+        addresses::are_apart(start.modules.0, m, start.ranges.0, n),
         Refusal::BadPart,
     )
 }
@@ -82,14 +82,14 @@ pub(crate) fn put(guest: &mut [u8], start: Start, modules: &[u64], ranges: &[u64
         kinds::VERSION,
         start.flags as u64,
         (modules.len() / kinds::FIELDS) as u64,
-        start.modules,
-        start.command_line,
-        start.rsdp,
-        start.ranges,
+        start.modules.0,
+        start.command_line.0,
+        start.rsdp.0,
+        start.ranges.0,
         (ranges.len() / kinds::FIELDS) as u64,
         0,
     ];
-    rows::put_rows(guest, start.block, &kinds::BLOCK, &block);
-    rows::put_rows(guest, start.modules, &kinds::MODULE, modules);
-    rows::put_rows(guest, start.ranges, &kinds::RANGE, ranges);
+    rows::put_rows(guest, start.block.0, &kinds::BLOCK, &block);
+    rows::put_rows(guest, start.modules.0, &kinds::MODULE, modules);
+    rows::put_rows(guest, start.ranges.0, &kinds::RANGE, ranges);
 }

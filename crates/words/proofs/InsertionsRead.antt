@@ -20,7 +20,7 @@ use Rattle.cmdline.specs.Calls as Calls
 use Rattle.cmdline.specs.Insertion.{planGate, answerOf, settled, insert, insertStr}
 use Rattle.cmdline.specs.Making.{new}
 use Rattle.cmdline.specs.Text.{Text, empty}
-use Rattle.cmdline.specs.Writing.{wholeOf, whole}
+use Rattle.cmdline.specs.Writing.{wholeLine, whole}
 use Rattle.cmdline.proofs.InsertedPair.{inserted-pair}
 use Rattle.words.specs.Inserting.{Insertion, insertions, AllAccepted, accepted, ValueQuotes, WellQuoted, no-more, well-quoted, ReadsBack}
 use Rattle.words.proofs.JoinedLaws.{textOf, Good, Goods, none-left, one-more}
@@ -102,8 +102,8 @@ all-made xs (y ∷ ys) t m (well-quoted k v more) said =
     (all-made (xs ++ (y ∷ [])) ys (Calls.calling (Calls.inserts (y .key) (y .value)) t .text)
     (subst⁻¹ (λ (u : Text). Made (xs ++ (y ∷ [])) u) (call-text t y is-open) (made-more xs t y m k v is-open)) more (rest-accepted said))
 
-whole-boot : (boot : List ℕ) (init : List ℕ) → init ≡ [] → wholeOf boot init ≡ boot
-unfolding wholeOf pick
+whole-boot : (boot : List ℕ) (init : List ℕ) → init ≡ [] → wholeLine boot init ≡ boot
+unfolding wholeLine pick
 whole-boot boot init e = rw e (append-nil boot)
 
 made-reads : (xs : List Insertion) (t : Text) → Made xs t → ReadsBack (whole t) xs

@@ -209,8 +209,8 @@ fn written(
         modules: GuestAddress(places[1]),
         memory_map: GuestAddress(places[2]),
         flags: flags as u32,
-        command_line,
-        rsdp,
+        command_line: GuestAddress(command_line),
+        rsdp: GuestAddress(rsdp),
     };
     let map = Map::whole(length);
     start_info::write_numbers(&mut bytes, &map, start, &lists.modules, &lists.ranges)

@@ -1,5 +1,5 @@
-//! Each two parts at each two places of a small guest, addresses around its end and that of 2^64, lists of each small length, and each byte of a good
-//! block and its lists with some values.
+//! Each two parts at each two places of a small guest, addresses around its end and that of 2^64, lists of each small
+//! length, each byte of a good block and its lists with some values, and each two things that are wrong with one.
 
 use crate::answer::Answer;
 use crate::over_second;
@@ -32,7 +32,7 @@ pub fn start() -> impl Iterator<Item = Question> {
         .chain(ends())
         .chain(lists())
         .chain(three_parts());
-    let checks = bytes().chain(places()).chain(counts());
+    let checks = bytes().chain(places()).chain(counts()).chain(pairs());
     writes
         .map(Question::StartWrite)
         .chain(checks.map(Question::StartCheck))
@@ -191,4 +191,18 @@ fn counts() -> impl Iterator<Item = StartCheck> {
                 })
             })
         })
+}
+
+/// Each two of what a block may have wrong, whose first is answered: magic, version, reserved field, and of each list
+/// the count and a reserved field.
+fn pairs() -> impl Iterator<Item = StartCheck> {
+    let wrong = [1, 5, 53, 1 + 15, 57 + 24, 1 + 51, 89 + 20];
+    wrong.into_iter().flat_map(move |first| {
+        wrong.into_iter().map(move |second| {
+            let mut check = good();
+            check.guest[first] = 0xee;
+            check.guest[second] = 0xee;
+            check
+        })
+    })
 }

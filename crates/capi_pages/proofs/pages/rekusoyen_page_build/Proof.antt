@@ -14,7 +14,7 @@ returns-2 : tie.Need-returns-2
 returns-2 c =
     let args = c .before .before .before .before .before .before .before .before .before .args in
     build-sized (args .header .now) (addressesOf (args .command-line) (args .ramdisk) (args .ramdisk-size)) (args .rows .now) (args .page .now) (c .before .before .before .before .before .if1 .left) (c .before .before .before .build .ensures)
-    (c .built .ensures)
+    (c .number2 .ensures)
 
 pub rekusoyen-page-build-spec : {M : Type 1} → statement M
 rekusoyen-page-build-spec =

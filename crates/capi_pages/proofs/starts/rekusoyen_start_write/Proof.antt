@@ -10,7 +10,7 @@ returns : tie.Need-returns
 returns c =
     let args = c .before .before .before .before .before .before .before .before .before .before .args in
     start-written (startOf (args .block) (args .modules-at) (args .ranges-at) (args .flags) (args .command-line) (args .rsdp)) (args .modules .now) (args .ranges .now) (mapOf (args .map .now)) (args .guest .now)
-    (c .before .before .before .before .from-numbers .ensures) (c .before .before .before .write .ensures) (c .written .ensures)
+    (c .before .before .before .before .from-numbers .ensures) (c .before .before .before .write .ensures) (c .number .ensures)
 
 pub rekusoyen-start-write-spec : {M : Type 1} → statement M
 rekusoyen-start-write-spec =

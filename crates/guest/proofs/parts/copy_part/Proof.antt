@@ -4,7 +4,7 @@ use Prim.Native.Nat.{_-_, min}
 use mathlib.Core.Path.{_∙_, ap, subst⁻¹}
 use native.Mathlib.Omega.{arith}
 use lib.ListN.{length}
-use Rattle.guest.specs.Parts.{keptPart, Stands}
+use Rattle.guest.specs.Parts.{keptPart, PartLies}
 use Rattle.guest.specs.Stream.{pour}
 use Rattle.guest.proofs.PartsLaws.{kept-stands, copied-is}
 use Rattle.guest.proofs.parts.copy_part.Statement.{statement}
@@ -14,7 +14,7 @@ add-t14 : tie.Need-add-t14
 add-t14 c =
     let args = c .before .before .before .before .before .before .args in
     let passed = c .before .before .lesser .ensures in
-    let stands = subst⁻¹ (Stands (length (args .image .now)) (args .memory)) (c .before .before .before .kept .ensures) (kept-stands (length (args .image .now)) (args .memory) (args .part)) in
+    let stands = subst⁻¹ (PartLies (length (args .image .now)) (args .memory)) (c .before .before .before .kept .ensures) (kept-stands (length (args .image .now)) (args .memory) (args .part)) in
     let slice = stands .in-slice in
     omega arith
 
@@ -22,7 +22,7 @@ add-t19 : tie.Need-add-t19
 add-t19 c =
     let args = c .before .before .before .before .before .before .args in
     let passed = c .before .before .lesser .ensures in
-    let stands = subst⁻¹ (Stands (length (args .image .now)) (args .memory)) (c .before .before .before .kept .ensures) (kept-stands (length (args .image .now)) (args .memory) (args .part)) in
+    let stands = subst⁻¹ (PartLies (length (args .image .now)) (args .memory)) (c .before .before .before .kept .ensures) (kept-stands (length (args .image .now)) (args .memory) (args .part)) in
     let place = stands .in-image in
     omega arith
 

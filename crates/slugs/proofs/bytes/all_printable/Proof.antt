@@ -5,13 +5,13 @@ use native.Mathlib.Omega.{arith}
 use lib.ListN.{drop, length}
 use borrow.Author.Needs.{needs}
 use Rattle.answers.proofs.PickLaws.{failed, held}
-use Rattle.slugs.specs.Bytes.{every, printable}
+use Rattle.slugs.specs.Bytes.{allBytes, printable}
 use Rattle.slugs.proofs.BytesLaws.{every-end, every-on, every-stop}
 use Rattle.slugs.proofs.bytes.all_printable.Statement.{statement}
 use Rattle.slugs.proofs.bytes.all_printable.Tie as tie
 
 abbrev Inv-loop : tie.InvT-loop
-Inv-loop s i₀ i = (i ≤ length s) × (every printable s ≡ every printable (drop i s))
+Inv-loop s i₀ i = (i ≤ length s) × (allBytes printable s ≡ allBytes printable (drop i s))
 
 abbrev μ-loop : tie.MeasureT-loop
 μ-loop s i₀ i = length s - i

@@ -1,0 +1,2 @@
+pub mod JobsLaws
+pub mod Outcomes
