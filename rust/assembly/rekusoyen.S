@@ -50,12 +50,12 @@
 	.set	rekusoyen_raw_plan, rekusoyen_raw_plan_0_1_0
 	.globl	rekusoyen_raw_start_block
 	.set	rekusoyen_raw_start_block, rekusoyen_raw_start_block_0_1_0
-	.globl	rekusoyen_raw_start_check
-	.set	rekusoyen_raw_start_check, rekusoyen_raw_start_check_0_1_0
 	.globl	rekusoyen_raw_step
 	.set	rekusoyen_raw_step, rekusoyen_raw_step_0_1_0
 	.globl	rekusoyen_setup_header
 	.set	rekusoyen_setup_header, rekusoyen_setup_header_0_1_0
+	.globl	rekusoyen_start_check
+	.set	rekusoyen_start_check, rekusoyen_start_check_0_1_0
 	.globl	rekusoyen_start_modules
 	.set	rekusoyen_start_modules, rekusoyen_start_modules_0_1_0
 	.globl	rekusoyen_start_ranges
