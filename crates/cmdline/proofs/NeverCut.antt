@@ -1,5 +1,5 @@
--- An insertion into a caller's buffer is never accepted with a text that was cut: the length that is returned is that of the text before it,
--- the space and the slug, it lies within the buffer, and the buffer holds that text.
+-- An insertion into a caller's buffer is never accepted with a text that was cut: the length that is returned is that
+-- of the text before it, the space and the slug, it lies within the buffer, and the buffer holds that text.
 use Prim.Native.Nat.{ℕ, _+_, _≤_, min}
 use mathlib.Core.Path.{_≡_, refl, sym, ap, _∙_}
 use mathlib.Core.Bool.{Bool, true, false}

@@ -1,5 +1,5 @@
--- A number is given exactly when its turn comes and its condition holds, of an answer and the row of tests that it is given by; 0 stands for
--- an accepted call.
+-- A number is given exactly when its turn comes and its condition holds, of an answer and the row of tests that it is
+-- given by; 0 stands for an accepted call.
 use Prim.Native.Nat.{ℕ, _+_}
 use mathlib.Core.Path.{_≡_}
 use mathlib.Core.List.{List}

@@ -1,4 +1,5 @@
--- Insertion in place, by the lengths of the texts: what it asks, what is put after the text, and what it leaves of the caller's buffer.
+-- Insertion in place, by the lengths of the texts: what it asks, what is put after the text, and what it leaves of the
+-- caller's buffer.
 use Prim.Native.Nat.{ℕ, _+_, min}
 use mathlib.Core.Path.{_≡_}
 use mathlib.Core.Bool.{not}

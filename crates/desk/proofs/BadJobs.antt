@@ -1,5 +1,6 @@
--- "A table or job that breaks any of this is 70, asked first": a job is refused with 70 exactly where it is not a good one, and prints `refused 70`
--- (`bad-prints`). No refusal of a load, of `try_from` or of a line put into guest memory has that number.
+-- "A table or job that breaks any of this is 70, asked first": a job is refused with 70 exactly where it is not a good
+-- one, and prints `refused 70` (`bad-prints`). No refusal of a load, of `try_from` or of a line put into guest memory
+-- has that number.
 use Prim.Native.Nat.{ℕ}
 use mathlib.Core.Path.{_≡_, refl, ap, subst}
 use mathlib.Core.List.{List, [], _∷_, _++_}

@@ -1,5 +1,5 @@
--- The tests of a job, which the code asks in its own order, hold exactly where the job is good, sentence by sentence (`GoodJob`); a good job
--- prints what its bodies give (`good-prints`).
+-- The tests of a job, which the code asks in its own order, hold exactly where the job is good, sentence by sentence
+-- (`GoodJob`); a good job prints what its bodies give (`good-prints`).
 use Prim.Native.Nat.{ℕ, _+_, _*_, _≤_}
 use mathlib.Core.Path.{_≡_, sym, _∙_, refl, ap, subst, subst⁻¹}
 use mathlib.Core.Bool.{Bool, true, false, _&&_, _||_}

@@ -15,13 +15,14 @@ use Rattle.guest.specs.declared.Given.{Given}
 use Rattle.guest.specs.declared.Map.{Map}
 use Rattle.guest.specs.declared.Memory.{Memory}
 use Rattle.guest.proofs.StreamLaws.{last-decides, last-append, last-inside, last-outside}
+use Rattle.guest.proofs.LoadingLaws.{load-length}
 use Rattle.elf.specs.Header.{e-phnum}
 use Rattle.elf.specs.ProgramHeaders.{headerOf}
 use Rattle.elf.specs.Pouring.{segmentStream, streamFrom, wholeStream, planOf}
 use Rattle.elf.specs.Rules.{SegmentRules, SegmentFits}
 use Rattle.elf.specs.Load.{LoadSays}
 use Rattle.elf.specs.Verdict.{Accepted, is-accepted}
-use Rattle.elf.specs.ByteRule.{Covers, FileByte, Ruled, last-covers, untouched}
+use Rattle.elf.specs.ByteRule.{RuledBytes, Covers, FileByte, Ruled, last-covers, untouched}
 use Rattle.guest.specs.declared.KernelLoaderResult.{KernelLoaderResult}
 use Rattle.guest.specs.declared.Answer.{Answer}
 use Rattle.guest.specs.declared.Answer.the-variants.{Loaded}
@@ -121,9 +122,12 @@ module _ (image : List ℕ) (m : Memory) (offset highmem : Given) (ok : Accepted
 
 -- the theorem, of whatever the contract of `load` permits
 module _ (image : List ℕ) (offset highmem : Given) (map : Map) (before after : List ℕ) {r : Answer} (says : LoadSays image offset highmem map before r after) where
-  pub byte-rule : {result : KernelLoaderResult} → r ≡ Loaded result → (a : ℕ) → a < length before
+  ruled-at : {result : KernelLoaderResult} → r ≡ Loaded result → (a : ℕ) → a < length before
       → Ruled image (amountOf offset) a 0 (e-phnum image) (getD before a 0) (getD after a 0)
-  byte-rule e a lt =
+  ruled-at e a lt =
       let loaded = sym (says .answer) ∙ e in
       rw (says .memory, plan-stream image (memoryOf before map) offset highmem, loaded)
       (poured-rule image (memoryOf before map) offset highmem (subst⁻¹ Accepted loaded is-accepted) before a lt)
+
+  pub byte-rule : {result : KernelLoaderResult} → r ≡ Loaded result → RuledBytes image (amountOf offset) before after
+  byte-rule e = record { as-long = load-length (planOf image (memoryOf before map) offset highmem) before after says; ruled = ruled-at e }

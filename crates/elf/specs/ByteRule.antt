@@ -3,6 +3,7 @@ use Prim.Native.Nat.{ℕ, _+_, _-_, _≤_, _<_}
 use mathlib.Core.Path.{_≡_}
 use mathlib.Core.List.{List}
 use lib.ListN.{length, getD}
+use Rattle.elf.specs.Header.{e-phnum}
 use Rattle.elf.specs.ProgramHeaders.{headerOf}
 use Rattle.elf.specs.declared.program_headers.ProgramHeader.{ProgramHeader}
 
@@ -29,3 +30,8 @@ pub data Ruled (image : List ℕ) (shift address i n old byte : ℕ) : Type 0 wh
       → Ruled image shift address i n old byte
   untouched : ((j : ℕ) → i ≤ j → j < i + n → Covers shift address (headerOf image j) → ⊥) → byte ≡ old
       → Ruled image shift address i n old byte
+
+-- guest memory that held `before` holds `after`: as many bytes, each by the rule over all program headers
+pub record RuledBytes (image : List ℕ) (shift : ℕ) (before after : List ℕ) : Type 0 where
+  pub as-long : length after ≡ length before
+  pub ruled : (a : ℕ) → a < length before → Ruled image shift a 0 (e-phnum image) (getD before a 0) (getD after a 0)

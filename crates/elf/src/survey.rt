@@ -52,19 +52,14 @@ pub enum Step {
     Stop(Refusal),
 }
 
-// The end of a segment's memory, of this size from an address on, if no test before it refused.
-fn end_step(gate: Gate, at: u64, size: u64) -> Step
-    ensures { λ r. ⌜ r ≡ stepBy (asked gate (fits64 at size) MemoryOverflow) (record { 0 = at + size }) ⌝ }
+// The end of a segment's memory, of this size from an address on.
+fn end_step(at: u64, size: u64) -> Step
+    ensures { λ r. ⌜ r ≡ stepBy (asked Open (fits64 at size) MemoryOverflow) (record { 0 = at + size }) ⌝ }
 {
-    match gate {
-        Gate::Shut(r) => Step::Stop(r),
-        Gate::Open => {
-            if !ranges::sum_fits(at, size) {
-                return Step::Stop(Refusal::MemoryOverflow);
-            }
-            Step::Pass(Effect::EndsAt(GuestAddress(at + size)))
-        }
+    if !ranges::sum_fits(at, size) {
+        return Step::Stop(Refusal::MemoryOverflow);
     }
+    Step::Pass(Effect::EndsAt(GuestAddress(at + size)))
 }
 
 // A loadable segment with file bytes.
@@ -80,11 +75,13 @@ fn segment_step(image_len: u64, memory: Memory, shift: GuestAddress, h: ProgramH
         return Step::Stop(Refusal::InvalidProgramHeaderAddress);
     }
     let at = shift + p_paddr;
-    let in_image = ranges::within(image_len, h.p_offset.0, h.p_filesz);
-    let gate = answers::require(Gate::Open, in_image, Refusal::ReadKernelImage);
-    let has_room = room::has_room(memory, GuestAddress(at), h.p_filesz);
-    let gate = answers::require(gate, has_room, Refusal::ReadKernelImage);
-    end_step(gate, at, h.p_memsz)
+    if !ranges::within(image_len, h.p_offset.0, h.p_filesz) {
+        return Step::Stop(Refusal::ReadKernelImage);
+    }
+    if !room::has_room(memory, GuestAddress(at), h.p_filesz) {
+        return Step::Stop(Refusal::ReadKernelImage);
+    }
+    end_step(at, h.p_memsz)
 }
 
 // A loadable segment of memory only: nothing is read or written, and no room is needed.
@@ -96,7 +93,7 @@ fn memory_step(shift: GuestAddress, h: ProgramHeader) -> Step
     if !ranges::sum_fits(shift, p_paddr) {
         return Step::Stop(Refusal::InvalidProgramHeaderAddress);
     }
-    end_step(Gate::Open, shift + p_paddr, h.p_memsz)
+    end_step(shift + p_paddr, h.p_memsz)
 }
 
 // A loadable segment: with file bytes, of memory only, or empty.

@@ -1,5 +1,5 @@
--- "trims bytes 9 to 13 and 32 at both ends": a text is blanks, its trimmed text and blanks, and the trimmed text has no blank at either
--- end (`trim-trimmed`); and no other text is so (`trimmed-only`).
+-- "trims bytes 9 to 13 and 32 at both ends": a text is blanks, its trimmed text and blanks, and the trimmed text has no
+-- blank at either end (`trim-trimmed`); and no other text is so (`trimmed-only`).
 use Prim.Native.Nat.{ℕ, _-_, _<_}
 use mathlib.Core.Path.{_≡_, refl, sym, ap, _∙_, subst}
 use mathlib.Core.Bool.{Bool, true, false}

@@ -1,7 +1,8 @@
--- "An unclosed quote is refusal 71 with the place of that opening quote, asked first"; "too few places in any is 72"; "both refusals write
--- nothing". Of what `read` returns by its contract: 71 exactly when the quotes are odd in number (`odd-number`, `number-odd`), 72 exactly when
--- they are even and the words of the line by the house rule are more than the shortest list has places (`few-number`, `number-few`), and else
--- the words are counted and written (`read-number`, `number-read`, `words-written`).
+-- "An unclosed quote is refusal 71 with the place of that opening quote, asked first"; "too few places in any is 72";
+-- "both refusals write nothing". Of what `read` returns by its contract: 71 exactly when the quotes are odd in number
+-- (`odd-number`, `number-odd`), 72 exactly when they are even and the words of the line by the house rule are more than
+-- the shortest list has places (`few-number`, `number-few`), and else the words are counted and written (`read-number`,
+-- `number-read`, `words-written`).
 use Prim.Native.Nat.{ℕ, _≤_, _<_}
 use mathlib.Core.Path.{_≡_, refl, sym, ap, subst, subst⁻¹, _∙_}
 use mathlib.Core.Bool.{Bool, true, false}
@@ -95,7 +96,8 @@ module _ {line a b c : List ℕ} {r : Answer} {a' b' c' : List ℕ} (reads : Rea
     count : evenQuotes true line ≡ true → length ws ≡ length (wordsOf line)
     count even = ap (λ (x : List Word). length x) (words-only line ws even parted)
 
-    -- 72 exactly when the quotes are even in number, and the words of the line are more than the places of the shortest list
+    -- 72 exactly when the quotes are even in number, and the words of the line are more than the places of the shortest
+    -- list
     pub few-number : evenQuotes true line ≡ true → roomOf a b c < length ws → wordsNumber r ≡ 72
     few-number even h = let n = count even in few-case case even (omega arith)
 

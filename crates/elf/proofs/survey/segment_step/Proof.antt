@@ -25,15 +25,34 @@ add-at c = omega (arith, within-sum _ _ _ (held (c .before .sum-fits .ensures) (
 returns-3 : tie.Need-returns-3
 unfolding asked pick
 returns-3 c =
+    let h = c .before .before .before .before .before .before .args .h in
+    rw (
+      le-leb (h .«p_filesz») (h .«p_memsz») (omega (arith, c .before .before .before .before .if1 .left)),
+      held (c .before .before .before .sum-fits .ensures) (c .before .before .if2 .left),
+      failed (c .before .within .ensures) (c .if3 .taken),
+    )
+
+returns-4 : tie.Need-returns-4
+unfolding asked pick
+returns-4 c =
+    let h = c .before .before .before .before .before .before .before .before .args .h in
+    rw (
+      le-leb (h .«p_filesz») (h .«p_memsz») (omega (arith, c .before .before .before .before .before .before .if1 .left)),
+      held (c .before .before .before .before .before .sum-fits .ensures) (c .before .before .before .before .if2 .left),
+      held (c .before .before .before .within .ensures) (c .before .before .if3 .left),
+      failed (c .before .has-room .ensures) (c .if4 .taken),
+    )
+
+returns-5 : tie.Need-returns-5
+unfolding asked pick
+returns-5 c =
     let h = c .before .before .before .before .before .before .before .before .before .args .h in
     rw (
       le-leb (h .«p_filesz») (h .«p_memsz») (omega (arith, c .before .before .before .before .before .before .before .if1 .left)),
       held (c .before .before .before .before .before .before .sum-fits .ensures) (c .before .before .before .before .before .if2 .left),
+      held (c .before .before .before .before .within .ensures) (c .before .before .before .if3 .left),
+      held (c .before .before .has-room .ensures) (c .before .if4 .left),
       c .end-step .ensures,
-      c .before .require2 .ensures,
-      c .before .before .has-room .ensures,
-      c .before .before .before .require .ensures,
-      c .before .before .before .before .within .ensures,
     )
 
 pub segment-step-spec : {M : Type 1} → statement M
@@ -45,8 +64,8 @@ segment-step-spec =
     returns-2
     add-at
     (λ c κs. search needs)
+    returns-3
     (λ c κs. search needs)
+    returns-4
     (λ c κs. search needs)
-    (λ c κs. search needs)
-    (λ c κs. search needs)
-    returns-3)
+    returns-5)
