@@ -2,7 +2,7 @@
    the proved crates in crates/ of the repository. tools/make-dist writes it; do not edit it: ./test makes it again and
    fails if a byte differs.
 
-   sources: 196c043d765e004ed5606640abe324fd7aac97100aa5aa5dbc74f5a33c3cc097
+   sources: 1320c64a1adced2d18ab35223f8e05fa86f43001af264407d38b37b8ecee7de1
    kit: rattle-kit-5b logic 064da1ca440f63e7
 
    The sources are the crates capi capi_lines capi_pages capi_jobs, and those below them. The code calls memcpy, memmove and
@@ -1655,9 +1655,9 @@ rekusoyen_0_1_0.loads.formats.plan:
 	cbz	x21, .Lrekusoyen_0_1_0.loads.formats.plan.152
 	ldrb	w13, [x23]
 	cmp	w13, #127
-	b.ne	.Lrekusoyen_0_1_0.loads.formats.plan.210
+	b.ne	.Lrekusoyen_0_1_0.loads.formats.plan.209
 	cmp	x21, #1
-	b.ne	.Lrekusoyen_0_1_0.loads.formats.plan.205
+	b.ne	.Lrekusoyen_0_1_0.loads.formats.plan.204
 .Lrekusoyen_0_1_0.loads.formats.plan.152:
 	mov	w13, #1
 	mov	w14, #1
@@ -1721,22 +1721,22 @@ rekusoyen_0_1_0.loads.formats.plan:
 	csel	w8, w12, w8, ne
 	cmp	w16, #0
 	csel	w8, w13, w8, ne
-	tbnz	w16, #0, .Lrekusoyen_0_1_0.loads.formats.plan.201
-	tbnz	w10, #0, .Lrekusoyen_0_1_0.loads.formats.plan.201
-	tbnz	w9, #0, .Lrekusoyen_0_1_0.loads.formats.plan.201
+	tbnz	w16, #0, .Lrekusoyen_0_1_0.loads.formats.plan.200
+	tbnz	w10, #0, .Lrekusoyen_0_1_0.loads.formats.plan.200
+	tbnz	w9, #0, .Lrekusoyen_0_1_0.loads.formats.plan.200
 	tbnz	w11, #0, .Lrekusoyen_0_1_0.loads.formats.plan.80
-	ldrh	w6, [x23, #56]
+	ldrh	w15, [x23, #56]
 	cmp	w29, #0
 	ldr	x8, [x23, #24]
-	csel	x0, xzr, x2, eq
-	cbz	x6, .Lrekusoyen_0_1_0.loads.formats.plan.202
-	str	x8, [sp, #24]
+	csel	x9, xzr, x2, eq
+	cbz	x15, .Lrekusoyen_0_1_0.loads.formats.plan.201
+	stp	x8, x9, [sp, #24]
 	ldr	x8, [x23, #32]
-	mvn	x9, x0
-	stp	x0, x9, [sp, #48]
+	mvn	x9, x9
+	stp	x15, x9, [sp, #48]
 	cmp	x28, #16
 	mov	w9, #16
-	add	x7, x23, x8
+	add	x0, x23, x8
 	csel	x8, x28, x9, lo
 	add	x10, sp, #176
 	str	x8, [sp, #16]
@@ -1746,8 +1746,8 @@ rekusoyen_0_1_0.loads.formats.plan:
 	add	x22, x10, #16
 	add	x25, x8, #24
 	mov	w17, #2
-	mov	w24, #56
-	stp	x7, x6, [sp, #32]
+	mov	w6, #56
+	str	x0, [sp, #40]
 	b	.Lrekusoyen_0_1_0.loads.formats.plan.163
 .Lrekusoyen_0_1_0.loads.formats.plan.160:
 	ldr	q0, [sp, #80]
@@ -1760,18 +1760,18 @@ rekusoyen_0_1_0.loads.formats.plan:
 	ldr	x9, [x8, #16]
 	ldr	q0, [x8]
 	add	x26, x26, #1
-	cmp	x26, x6
+	cmp	x26, x15
 	str	x9, [x25, #16]
 	str	q0, [x25]
-	b.eq	.Lrekusoyen_0_1_0.loads.formats.plan.203
+	b.eq	.Lrekusoyen_0_1_0.loads.formats.plan.202
 .Lrekusoyen_0_1_0.loads.formats.plan.163:
-	madd	x9, x26, x24, x7
-	ldr	w8, [x9]
-	ldr	x2, [x9, #8]
-	ldr	x3, [x9, #32]
-	cmp	w8, #1
+	madd	x8, x26, x6, x0
+	ldr	w9, [x8]
+	ldr	x2, [x8, #8]
+	ldr	x3, [x8, #32]
+	cmp	w9, #1
 	b.eq	.Lrekusoyen_0_1_0.loads.formats.plan.167
-	cmp	w8, #4
+	cmp	w9, #4
 	b.ne	.Lrekusoyen_0_1_0.loads.formats.plan.160
 	stp	x23, x21, [sp, #432]
 	cbz	w29, .Lrekusoyen_0_1_0.loads.formats.plan.170
@@ -1781,15 +1781,15 @@ rekusoyen_0_1_0.loads.formats.plan:
 	str	x10, [sp, #96]
 	mov	w10, #2
 	str	q0, [sp, #80]
-	b	.Lrekusoyen_0_1_0.loads.formats.plan.193
+	b	.Lrekusoyen_0_1_0.loads.formats.plan.195
 .Lrekusoyen_0_1_0.loads.formats.plan.167:
-	ldr	x8, [x9, #24]
-	ldr	x10, [x9, #40]
+	ldr	x11, [x8, #24]
+	ldr	x10, [x8, #40]
 	cbz	x3, .Lrekusoyen_0_1_0.loads.formats.plan.172
 	cmp	x10, x3
-	b.hs	.Lrekusoyen_0_1_0.loads.formats.plan.175
+	b.hs	.Lrekusoyen_0_1_0.loads.formats.plan.176
 	mov	w8, #13
-	b	.Lrekusoyen_0_1_0.loads.formats.plan.187
+	b	.Lrekusoyen_0_1_0.loads.formats.plan.178
 .Lrekusoyen_0_1_0.loads.formats.plan.170:
 	add	x0, sp, #560
 	add	x1, sp, #432
@@ -1801,44 +1801,57 @@ rekusoyen_0_1_0.loads.formats.plan:
 	mov	x23, x4
 	bl	rekusoyen_0_1_0.elf.notes.entry
 	ldrb	w9, [sp, #560]
-	cbz	w9, .Lrekusoyen_0_1_0.loads.formats.plan.190
+	cbz	w9, .Lrekusoyen_0_1_0.loads.formats.plan.192
 	ldrb	w8, [sp, #561]
 	mov	x11, xzr
-	b	.Lrekusoyen_0_1_0.loads.formats.plan.191
+	b	.Lrekusoyen_0_1_0.loads.formats.plan.193
 .Lrekusoyen_0_1_0.loads.formats.plan.172:
-	cbz	x10, .Lrekusoyen_0_1_0.loads.formats.plan.192
-	ldr	x9, [sp, #56]
-	cmp	x8, x9
-	b.hi	.Lrekusoyen_0_1_0.loads.formats.plan.176
-	add	x8, x8, x0
-	adds	x13, x8, x10
-	mov	w8, #12
-	cset	w9, hs
-	and	x11, x13, #0xffffffffffffff00
-	mov	w10, #1
-	and	x12, x13, #0xff
-	orr	x11, x11, x12
-	cbz	w9, .Lrekusoyen_0_1_0.loads.formats.plan.193
-	b	.Lrekusoyen_0_1_0.loads.formats.plan.200
+	cbz	x10, .Lrekusoyen_0_1_0.loads.formats.plan.194
+	ldr	x8, [sp, #56]
+	cmp	x11, x8
+	b.hi	.Lrekusoyen_0_1_0.loads.formats.plan.177
+	ldr	x8, [sp, #32]
+	add	x8, x11, x8
+	adds	x12, x8, x10
 .Lrekusoyen_0_1_0.loads.formats.plan.175:
-	ldr	x9, [sp, #56]
-	cmp	x8, x9
-	b.ls	.Lrekusoyen_0_1_0.loads.formats.plan.177
+	cset	w9, hs
+	mov	w8, #12
+	and	x11, x12, #0xffffffffffffff00
+	mov	w10, #1
+	and	x12, x12, #0xff
+	orr	x11, x11, x12
+	cbz	w9, .Lrekusoyen_0_1_0.loads.formats.plan.195
+	b	.Lrekusoyen_0_1_0.loads.formats.plan.213
 .Lrekusoyen_0_1_0.loads.formats.plan.176:
-	mov	w8, #8
-	b	.Lrekusoyen_0_1_0.loads.formats.plan.187
+	ldr	x8, [sp, #56]
+	cmp	x11, x8
+	b.ls	.Lrekusoyen_0_1_0.loads.formats.plan.181
 .Lrekusoyen_0_1_0.loads.formats.plan.177:
-	subs	x9, x21, x2
-	add	x11, x8, x0
-	cset	w8, lo
-	cmp	x3, x9
+	mov	w8, #8
+.Lrekusoyen_0_1_0.loads.formats.plan.178:
 	mov	w9, #1
-	csinc	w12, w8, wzr, ls
-	subs	x13, x4, x11
+.Lrekusoyen_0_1_0.loads.formats.plan.179:
+.Lrekusoyen_0_1_0.loads.formats.plan.180:
+	and	x11, x12, #0xffffffffffffff00
+	mov	w10, #1
+	and	x12, x12, #0xff
+	orr	x11, x11, x12
+	cbz	w9, .Lrekusoyen_0_1_0.loads.formats.plan.195
+	b	.Lrekusoyen_0_1_0.loads.formats.plan.213
+.Lrekusoyen_0_1_0.loads.formats.plan.181:
+	subs	x12, x21, x2
 	mov	w8, #9
-	b.lo	.Lrekusoyen_0_1_0.loads.formats.plan.188
-	cmp	x3, x13
-	b.hi	.Lrekusoyen_0_1_0.loads.formats.plan.189
+	mov	w9, #1
+	b.lo	.Lrekusoyen_0_1_0.loads.formats.plan.179
+	cmp	x3, x12
+	b.hi	.Lrekusoyen_0_1_0.loads.formats.plan.180
+	ldr	x8, [sp, #32]
+	add	x11, x11, x8
+	mov	w8, #9
+	subs	x12, x4, x11
+	b.lo	.Lrekusoyen_0_1_0.loads.formats.plan.179
+	cmp	x3, x12
+	b.hi	.Lrekusoyen_0_1_0.loads.formats.plan.180
 	ldp	q0, q1, [x20, #80]
 	stp	q0, q1, [sp, #624]
 	ldp	q0, q2, [x20, #112]
@@ -1855,72 +1868,60 @@ rekusoyen_0_1_0.loads.formats.plan:
 	stp	q1, q0, [sp, #432]
 	ldp	q2, q0, [x20, #176]
 	stp	q2, q0, [sp, #464]
-	cbz	x28, .Lrekusoyen_0_1_0.loads.formats.plan.186
-	ldr	x13, [sp, #16]
+	cbz	x28, .Lrekusoyen_0_1_0.loads.formats.plan.199
+	ldr	x12, [sp, #16]
 	add	x8, sp, #432
 	add	x9, sp, #560
-	b	.Lrekusoyen_0_1_0.loads.formats.plan.182
-.Lrekusoyen_0_1_0.loads.formats.plan.181:
-	subs	x13, x13, #1
-	add	x8, x8, #8
-	b.eq	.Lrekusoyen_0_1_0.loads.formats.plan.186
-.Lrekusoyen_0_1_0.loads.formats.plan.182:
-	ldr	x14, [x9], #8
-	subs	x14, x11, x14
-	b.lo	.Lrekusoyen_0_1_0.loads.formats.plan.181
-	ldr	x15, [x8]
-	subs	x14, x15, x14
-	b.lo	.Lrekusoyen_0_1_0.loads.formats.plan.181
-	cmp	x3, x14
-	b.hi	.Lrekusoyen_0_1_0.loads.formats.plan.181
-	tbz	w12, #0, .Lrekusoyen_0_1_0.loads.formats.plan.197
-.Lrekusoyen_0_1_0.loads.formats.plan.186:
-	mov	w8, #9
+	b	.Lrekusoyen_0_1_0.loads.formats.plan.188
 .Lrekusoyen_0_1_0.loads.formats.plan.187:
-	mov	w9, #1
+	subs	x12, x12, #1
+	add	x8, x8, #8
+	b.eq	.Lrekusoyen_0_1_0.loads.formats.plan.199
 .Lrekusoyen_0_1_0.loads.formats.plan.188:
-.Lrekusoyen_0_1_0.loads.formats.plan.189:
-	and	x11, x13, #0xffffffffffffff00
-	mov	w10, #1
-	and	x12, x13, #0xff
-	orr	x11, x11, x12
-	cbz	w9, .Lrekusoyen_0_1_0.loads.formats.plan.193
-	b	.Lrekusoyen_0_1_0.loads.formats.plan.200
-.Lrekusoyen_0_1_0.loads.formats.plan.190:
+	ldr	x13, [x9], #8
+	subs	x13, x11, x13
+	b.lo	.Lrekusoyen_0_1_0.loads.formats.plan.187
+	ldr	x14, [x8]
+	subs	x13, x14, x13
+	b.lo	.Lrekusoyen_0_1_0.loads.formats.plan.187
+	cmp	x3, x13
+	b.hi	.Lrekusoyen_0_1_0.loads.formats.plan.187
+	adds	x12, x11, x10
+	b	.Lrekusoyen_0_1_0.loads.formats.plan.175
+.Lrekusoyen_0_1_0.loads.formats.plan.192:
 	add	x8, sp, #560
 	ldr	x11, [sp, #568]
 	ldur	q0, [x8, #16]
 	ldur	x8, [x8, #32]
 	str	q0, [sp, #144]
 	str	x8, [sp, #160]
-.Lrekusoyen_0_1_0.loads.formats.plan.191:
-	ldp	x6, x0, [sp, #40]
+.Lrekusoyen_0_1_0.loads.formats.plan.193:
+	ldp	x0, x15, [sp, #40]
 	mov	x4, x23
 	ldr	x17, [sp, #72]
-	ldr	x7, [sp, #32]
 	mov	x23, x19
 	mov	x19, x28
 	mov	x28, x24
 	mov	x16, x27
-	mov	w24, #56
+	mov	w6, #56
 	ldr	x10, [sp, #160]
 	ldr	q0, [sp, #144]
 	str	x10, [sp, #96]
 	mov	w10, #2
 	str	q0, [sp, #80]
-	cbz	w9, .Lrekusoyen_0_1_0.loads.formats.plan.193
-	b	.Lrekusoyen_0_1_0.loads.formats.plan.200
-.Lrekusoyen_0_1_0.loads.formats.plan.192:
+	cbz	w9, .Lrekusoyen_0_1_0.loads.formats.plan.195
+	b	.Lrekusoyen_0_1_0.loads.formats.plan.213
+.Lrekusoyen_0_1_0.loads.formats.plan.194:
 	and	x12, xzr, #0xff
 	mov	x11, x12
-.Lrekusoyen_0_1_0.loads.formats.plan.193:
+.Lrekusoyen_0_1_0.loads.formats.plan.195:
 	ldr	q0, [sp, #80]
 	ldr	x8, [sp, #96]
 	str	q0, [x22]
 	str	x8, [x22, #16]
 	cbz	w10, .Lrekusoyen_0_1_0.loads.formats.plan.161
 	cmp	w10, #2
-	b.ne	.Lrekusoyen_0_1_0.loads.formats.plan.196
+	b.ne	.Lrekusoyen_0_1_0.loads.formats.plan.198
 	lsr	x8, x11, #8
 	and	w9, w11, #0xff
 	cmp	w17, #0
@@ -1928,80 +1929,70 @@ rekusoyen_0_1_0.loads.formats.plan:
 	str	x8, [sp, #64]
 	csel	x8, x25, x22, eq
 	b	.Lrekusoyen_0_1_0.loads.formats.plan.162
-.Lrekusoyen_0_1_0.loads.formats.plan.196:
+.Lrekusoyen_0_1_0.loads.formats.plan.198:
 	cmp	x16, x11
 	mov	x8, x25
 	csel	x16, x16, x11, hi
 	b	.Lrekusoyen_0_1_0.loads.formats.plan.162
-.Lrekusoyen_0_1_0.loads.formats.plan.197:
-	cmn	x11, x10
-	b.lo	.Lrekusoyen_0_1_0.loads.formats.plan.199
-	mov	w8, #12
-	b	.Lrekusoyen_0_1_0.loads.formats.plan.187
 .Lrekusoyen_0_1_0.loads.formats.plan.199:
-	add	x13, x10, x11
 	mov	w8, #9
-	and	x11, x13, #0xffffffffffffff00
-	mov	w10, #1
-	and	x12, x13, #0xff
-	orr	x11, x11, x12
-	b	.Lrekusoyen_0_1_0.loads.formats.plan.193
+	b	.Lrekusoyen_0_1_0.loads.formats.plan.178
 .Lrekusoyen_0_1_0.loads.formats.plan.200:
-	mov	w17, wzr
-	mov	w22, #1
 	b	.Lrekusoyen_0_1_0.loads.formats.plan.80
 .Lrekusoyen_0_1_0.loads.formats.plan.201:
-	b	.Lrekusoyen_0_1_0.loads.formats.plan.80
-.Lrekusoyen_0_1_0.loads.formats.plan.202:
 	mov	x16, xzr
 	mov	w17, #2
-	b	.Lrekusoyen_0_1_0.loads.formats.plan.204
-.Lrekusoyen_0_1_0.loads.formats.plan.203:
+	b	.Lrekusoyen_0_1_0.loads.formats.plan.203
+.Lrekusoyen_0_1_0.loads.formats.plan.202:
 	ldr	x9, [sp, #64]
 	add	x3, sp, #304
 	lsr	x8, x9, #48
 	stur	w9, [x3, #17]
 	lsr	x9, x9, #32
 	strb	w8, [sp, #327]
-	ldr	x8, [sp, #24]
 	sturh	w9, [x3, #21]
-.Lrekusoyen_0_1_0.loads.formats.plan.204:
+	ldp	x8, x9, [sp, #24]
+.Lrekusoyen_0_1_0.loads.formats.plan.203:
 	ldur	q0, [x3, #17]
 	ldr	q1, [sp, #336]
 	mov	w22, wzr
-	add	x9, x8, x0
+	add	x9, x8, x9
 	str	q0, [sp, #112]
 	stur	q1, [sp, #127]
 	b	.Lrekusoyen_0_1_0.loads.formats.plan.80
-.Lrekusoyen_0_1_0.loads.formats.plan.205:
+.Lrekusoyen_0_1_0.loads.formats.plan.204:
 	ldrb	w13, [x23, #1]
 	cmp	w13, #69
-	b.ne	.Lrekusoyen_0_1_0.loads.formats.plan.210
+	b.ne	.Lrekusoyen_0_1_0.loads.formats.plan.209
 	cmp	x21, #3
 	b.lo	.Lrekusoyen_0_1_0.loads.formats.plan.152
 	ldrb	w13, [x23, #2]
 	cmp	w13, #76
-	b.ne	.Lrekusoyen_0_1_0.loads.formats.plan.210
+	b.ne	.Lrekusoyen_0_1_0.loads.formats.plan.209
 	cmp	x21, #3
 	b.eq	.Lrekusoyen_0_1_0.loads.formats.plan.152
 	ldrb	w13, [x23, #3]
 	cmp	w13, #70
 	cset	w13, ne
-	b	.Lrekusoyen_0_1_0.loads.formats.plan.211
-.Lrekusoyen_0_1_0.loads.formats.plan.210:
+	b	.Lrekusoyen_0_1_0.loads.formats.plan.210
+.Lrekusoyen_0_1_0.loads.formats.plan.209:
 	mov	w13, #1
-.Lrekusoyen_0_1_0.loads.formats.plan.211:
+.Lrekusoyen_0_1_0.loads.formats.plan.210:
 	cmp	x21, #6
-	b.hs	.Lrekusoyen_0_1_0.loads.formats.plan.213
+	b.hs	.Lrekusoyen_0_1_0.loads.formats.plan.212
 	mov	w14, #1
 	cbnz	x11, .Lrekusoyen_0_1_0.loads.formats.plan.153
 	b	.Lrekusoyen_0_1_0.loads.formats.plan.154
-.Lrekusoyen_0_1_0.loads.formats.plan.213:
+.Lrekusoyen_0_1_0.loads.formats.plan.212:
 	ldrb	w14, [x23, #5]
 	cmp	w14, #1
 	cset	w14, ne
 	cbnz	x11, .Lrekusoyen_0_1_0.loads.formats.plan.153
 	b	.Lrekusoyen_0_1_0.loads.formats.plan.154
+.Lrekusoyen_0_1_0.loads.formats.plan.213:
+	mov	w17, wzr
+	mov	w22, #1
+	b	.Lrekusoyen_0_1_0.loads.formats.plan.80
 .Lrekusoyen_0_1_0.loads.formats.plan.214:
 	cmp	x8, #4
 	b.lo	.Lrekusoyen_0_1_0.loads.formats.plan.221
