@@ -55,7 +55,12 @@ function changed(line,    out, word, length_of) {
 }
 
 FNR == NR && $1 == ".globl" { exported[$2] = 1 }
-FNR == NR && $1 == ".type" { name = $2; sub(/,[^,]*$/, "", name); gsub(/"/, "", name); if (name !~ /^\.L/) own[name] = 1 }
+FNR == NR && $1 == ".type" {
+    name = $2
+    sub(/,[^,]*$/, "", name)
+    gsub(/"/, "", name)
+    if (name !~ /^\.L/) own[name] = 1
+}
 FNR == NR && $1 == ".size" && match($0, /\.Lfunc_end[0-9]+/) {
     name = $2
     gsub(/[",]/, "", name)
