@@ -12,8 +12,18 @@ use Rattle.capi.proofs.entries.rekusoyen_kind.Kinds as kind-kinds
 use Rattle.capi.proofs.entries.rekusoyen_kind.Reads as kind-reads
 use Rattle.capi.proofs.entries.rekusoyen_setup_header.Kinds as setup-header-kinds
 use Rattle.capi.proofs.entries.rekusoyen_setup_header.Reads as setup-header-reads
+use Rattle.capi.proofs.entries.memory_by.Kinds as memory-by-kinds
+use Rattle.capi.proofs.entries.memory_by.Reads as memory-by-reads
 use Rattle.capi.proofs.notes.rekusoyen_raw_elf_note.Kinds as elf-note-kinds
 use Rattle.capi.proofs.notes.rekusoyen_raw_elf_note.Reads as elf-note-reads
+use Rattle.capi.proofs.options.ask_format.Kinds as ask-format-kinds
+use Rattle.capi.proofs.options.ask_format.Reads as ask-format-reads
+use Rattle.capi.proofs.options.options_of.Kinds as options-of-kinds
+use Rattle.capi.proofs.options.options_of.Reads as options-of-reads
+use Rattle.capi.proofs.places.put.Kinds as put-kinds
+use Rattle.capi.proofs.places.put.Reads as put-reads
+use Rattle.capi.proofs.results.kernel_numbers.Kinds as kernel-numbers-kinds
+use Rattle.capi.proofs.results.kernel_numbers.Reads as kernel-numbers-reads
 use Rattle.capi.proofs.steps.rekusoyen_raw_begin.Kinds as begin-kinds
 use Rattle.capi.proofs.steps.rekusoyen_raw_begin.Reads as begin-reads
 use Rattle.capi.proofs.steps.rekusoyen_raw_step.Kinds as step-kinds
@@ -52,3 +62,20 @@ begin-one κs a z z' ws ws' p q = (meet (p .answer) (q .answer), first (meet (p 
 pub step-one : OneOutcome 5 step-kinds.ps step-kinds.r step-reads.Post
 step-one κs a z z' ws ws' p q =
     (meet (p .answer) (q .answer), both (meet (p .memory) (q .memory)) (over (over (both (meet (p .state) (q .state)) (over (first (meet (p .told) (q .told))))))))
+
+-- what the entry points of other crates are made with
+
+pub memory-by-one : OneOutcome 1 memory-by-kinds.ps memory-by-kinds.r memory-by-reads.Post
+memory-by-one κs a z z' ws ws' p q = (meet p q, refl)
+
+pub ask-format-one : OneOutcome 0 ask-format-kinds.ps ask-format-kinds.r ask-format-reads.Post
+ask-format-one κs a z z' ws ws' p q = (meet p q, refl)
+
+pub options-of-one : OneOutcome 0 options-of-kinds.ps options-of-kinds.r options-of-reads.Post
+options-of-one κs a z z' ws ws' p q = (meet p q, refl)
+
+pub kernel-numbers-one : OneOutcome 0 kernel-numbers-kinds.ps kernel-numbers-kinds.r kernel-numbers-reads.Post
+kernel-numbers-one κs a z z' ws ws' p q = (meet p q, refl)
+
+pub put-one : OneOutcome 2 put-kinds.ps put-kinds.r put-reads.Post
+put-one κs a z z' ws ws' p q = (refl, first (meet p q))

@@ -66,6 +66,24 @@ everyRefusal =
     refusal.ImageStartWraps ∷
     refusal.NoRoomForImage ∷
     refusal.ImageEndWraps ∷
+    refusal.LineTooLong ∷
+    refusal.WrongEntry ∷
+    refusal.No64BitEntry ∷
+    refusal.NoPvhEntry ∷
+    refusal.LineNotInTree ∷
+    refusal.KernelOutside ∷
+    refusal.RamdiskOutside ∷
+    refusal.BootDataOutside ∷
+    refusal.RamdiskTooHigh ∷
+    refusal.KernelMeetsLine ∷
+    refusal.KernelMeetsRamdisk ∷
+    refusal.KernelMeetsBootData ∷
+    refusal.LineMeetsRamdisk ∷
+    refusal.LineMeetsBootData ∷
+    refusal.RamdiskMeetsBootData ∷
+    refusal.KernelNotInRows ∷
+    refusal.LineNotInRows ∷
+    refusal.RamdiskNotInRows ∷
     []
 
 -- the first of a list with this number; BadList where there is none

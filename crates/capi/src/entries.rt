@@ -47,7 +47,7 @@ pub extern "C" fn rekusoyen_raw_load(
 }
 
 // Guest memory of a size, whose map is start, size, start, size ..
-fn memory_by(size: u64, map: &[u64]) -> Memory
+pub fn memory_by(size: u64, map: &[u64]) -> Memory
     ensures { λ r. ⌜ r ≡ memoryBy size (now (map .entry)) ⌝ }
 {
     Memory {

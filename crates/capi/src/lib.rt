@@ -3,10 +3,10 @@
 // refused before anything is done.
 pub mod entries;
 pub mod notes;
-mod options;
-mod places;
+pub mod options;
+pub mod places;
 mod progress;
 mod refusals;
-mod results;
+pub mod results;
 mod saved;
 pub mod steps;

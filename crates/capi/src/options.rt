@@ -44,7 +44,7 @@ pub(crate) fn format_of(n: u64) -> Format
 }
 
 // Is it a format's number?
-pub(crate) fn ask_format(gate: Gate, n: u64) -> Gate
+pub fn ask_format(gate: Gate, n: u64) -> Gate
     ensures { λ r. ⌜ r ≡ askedAll gate (formatTests n) ⌝ }
 {
     let gate = answers::require(gate, 1 <= n, Refusal::BadList);
@@ -52,7 +52,7 @@ pub(crate) fn ask_format(gate: Gate, n: u64) -> Gate
 }
 
 // Bit 0 of the flags: an offset is given; bit 1: the start of high memory is.
-pub(crate) fn options_of(format: u32, flags: u32, offset: u64, highmem: u64) -> Options
+pub fn options_of(format: u32, flags: u32, offset: u64, highmem: u64) -> Options
     ensures { λ r. ⌜ r ≡ optionsOf format flags offset highmem ⌝ }
 {
     let kernel_offset = given((flags % 2) as u64, offset);

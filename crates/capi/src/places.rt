@@ -33,7 +33,7 @@ pub(crate) fn sixteen(numbers: &[u64], from: u32) -> [u64; 16]
 }
 
 // Writes numbers from a place on, as far as the list goes.
-pub(crate) fn put(numbers: &mut [u64], from: usize, values: &[u64])
+pub fn put(numbers: &mut [u64], from: usize, values: &[u64])
     ensures { λ _. ⌜ now (numbers .exit) ≡ sets (now (numbers .entry)) from (now (values .entry)) ⌝ }
 {
     let mut at = from;

@@ -51,7 +51,7 @@ pub(crate) fn pvh_size(said: PvhBootCapability) -> u64
 }
 
 // The six numbers of a kernel that is loaded.
-pub(crate) fn kernel_numbers(kernel: KernelLoaderResult) -> [u64; 6]
+pub fn kernel_numbers(kernel: KernelLoaderResult) -> [u64; 6]
     ensures { λ r. ⌜ r ≡ kernelNumbers kernel ⌝ }
 {
     let said = kernel.pvh_boot_cap;

@@ -227,8 +227,80 @@ unfolding refusalOf firstWith pick
 returns-55 c = ap refusalOf (sym (c .match .keys55))
 
 returns-56 : tie.Need-returns-56
+unfolding refusalOf firstWith pick
+returns-56 c = ap refusalOf (sym (c .match .keys56))
+
+returns-57 : tie.Need-returns-57
+unfolding refusalOf firstWith pick
+returns-57 c = ap refusalOf (sym (c .match .keys57))
+
+returns-58 : tie.Need-returns-58
+unfolding refusalOf firstWith pick
+returns-58 c = ap refusalOf (sym (c .match .keys58))
+
+returns-59 : tie.Need-returns-59
+unfolding refusalOf firstWith pick
+returns-59 c = ap refusalOf (sym (c .match .keys59))
+
+returns-60 : tie.Need-returns-60
+unfolding refusalOf firstWith pick
+returns-60 c = ap refusalOf (sym (c .match .keys60))
+
+returns-61 : tie.Need-returns-61
+unfolding refusalOf firstWith pick
+returns-61 c = ap refusalOf (sym (c .match .keys61))
+
+returns-62 : tie.Need-returns-62
+unfolding refusalOf firstWith pick
+returns-62 c = ap refusalOf (sym (c .match .keys62))
+
+returns-63 : tie.Need-returns-63
+unfolding refusalOf firstWith pick
+returns-63 c = ap refusalOf (sym (c .match .keys63))
+
+returns-64 : tie.Need-returns-64
+unfolding refusalOf firstWith pick
+returns-64 c = ap refusalOf (sym (c .match .keys64))
+
+returns-65 : tie.Need-returns-65
+unfolding refusalOf firstWith pick
+returns-65 c = ap refusalOf (sym (c .match .keys65))
+
+returns-66 : tie.Need-returns-66
+unfolding refusalOf firstWith pick
+returns-66 c = ap refusalOf (sym (c .match .keys66))
+
+returns-67 : tie.Need-returns-67
+unfolding refusalOf firstWith pick
+returns-67 c = ap refusalOf (sym (c .match .keys67))
+
+returns-68 : tie.Need-returns-68
+unfolding refusalOf firstWith pick
+returns-68 c = ap refusalOf (sym (c .match .keys68))
+
+returns-69 : tie.Need-returns-69
+unfolding refusalOf firstWith pick
+returns-69 c = ap refusalOf (sym (c .match .keys69))
+
+returns-70 : tie.Need-returns-70
+unfolding refusalOf firstWith pick
+returns-70 c = ap refusalOf (sym (c .match .keys70))
+
+returns-71 : tie.Need-returns-71
+unfolding refusalOf firstWith pick
+returns-71 c = ap refusalOf (sym (c .match .keys71))
+
+returns-72 : tie.Need-returns-72
+unfolding refusalOf firstWith pick
+returns-72 c = ap refusalOf (sym (c .match .keys72))
+
+returns-73 : tie.Need-returns-73
+unfolding refusalOf firstWith pick
+returns-73 c = ap refusalOf (sym (c .match .keys73))
+
+returns-74 : tie.Need-returns-74
 unfolding refusalOf
-returns-56 c = sym (none-with (c .before .args .n) _ everyRefusal (c .match .rest) .1)
+returns-74 c = sym (none-with (c .before .args .n) _ everyRefusal (c .match .rest) .1)
 
 pub by-number-spec : {M : Type 1} → statement M
 by-number-spec =
@@ -289,4 +361,22 @@ by-number-spec =
     returns-53
     returns-54
     returns-55
-    returns-56)
+    returns-56
+    returns-57
+    returns-58
+    returns-59
+    returns-60
+    returns-61
+    returns-62
+    returns-63
+    returns-64
+    returns-65
+    returns-66
+    returns-67
+    returns-68
+    returns-69
+    returns-70
+    returns-71
+    returns-72
+    returns-73
+    returns-74)
