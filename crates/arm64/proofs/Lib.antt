@@ -1,4 +1,5 @@
 pub mod PlanLaws
+pub mod MemoryLaws
 pub mod FileWritten
 pub mod Refusals
 pub mod MoreMemory

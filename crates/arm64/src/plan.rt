@@ -21,7 +21,7 @@ use guest::room;
 // The places of the header's fields.
 pub(crate) const TEXT_OFFSET: u64 = 8;
 
-const IMAGE_SIZE: u64 = 16;
+pub(crate) const IMAGE_SIZE: u64 = 16;
 
 const FLAGS: u64 = 24;
 

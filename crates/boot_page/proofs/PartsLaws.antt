@@ -4,18 +4,25 @@ use mathlib.Core.Path.{_≡_, refl, sym, ap, subst, _∙_}
 use mathlib.Core.List.{List, [], _∷_, _++_}
 use native.Mathlib.Omega.{arith}
 use native.Mathlib.Nat.{add-zero}
-use lib.ListN.{length, getD}
+use lib.ListN.{length, getD, replicate, length-replicate}
 use lib.Seq.{sets, length-sets}
 use Rattle.fields.specs.Numbers.{leBytes, HasBytes, no-byte, a-byte}
 use Rattle.fields.proofs.CopyingLaws.{sets-outside}
 use Rattle.fields.proofs.HasBytesLaws.{stored-at, kept-below, kept-above}
 use Rattle.fields.proofs.NumbersLaws.{length-le-bytes}
-use Rattle.boot_page.specs.Building.{Part, putParts}
+use Rattle.boot_page.specs.declared.Addresses.{Addresses}
+use Rattle.boot_page.specs.Building.{Part, putParts, partsOf, pageOf}
+use Rattle.boot_page.specs.Places.{pageSize}
 
 pub length-parts : (parts : List Part) (s : List ℕ) → length (putParts parts s) ≡ length s
 unfolding putParts
 length-parts [] s = refl
 length-parts (part ∷ parts) s = length-parts parts (sets s (part .0) (part .1)) ∙ length-sets s (part .0) (part .1)
+
+-- a page that is built has the size of a page
+pub page-length : (header : List ℕ) (addresses : Addresses) (rows : List ℕ) → length (pageOf header addresses rows) ≡ pageSize
+page-length header addresses rows =
+    length-parts (partsOf header addresses rows) (replicate pageSize 0) ∙ length-replicate {A = ℕ} pageSize 0
 
 -- no part covers this place
 pub data Uncovered (at : ℕ) : List Part → Type 0 where

@@ -1,6 +1,7 @@
 // The boot page: the 4,096-byte zero page of the Linux boot documents, built and read.
 ghost use mathlib.Core.Path.{_≡_};
-ghost use Rattle.boot_page.specs.Building.{Builds};
+ghost use Rattle.boot_page.specs.Building.{gateOf, Builds};
+ghost use Rattle.boot_page.specs.Places.{pageSize};
 ghost use Rattle.boot_page.specs.Reading.{Reads};
 use answers::Gate;
 use answers::Refusal;
@@ -32,6 +33,13 @@ pub enum Answer {
 pub struct Outcome {
     pub answer: Answer,
     pub setup_header: [u8; 123],
+}
+
+// The checks of the rows of a page, without the page: an open gate says that a page of 4,096 bytes will be built.
+pub fn plan(rows: &[u64]) -> Gate
+    ensures { λ r. ⌜ r ≡ gateOf pageSize (now (rows .entry)) ⌝ }
+{
+    building::ask(places::PAGE, rows)
 }
 
 // Builds the page: all zero, then the setup header, of which a byte past its end counts as 0, then the loader type and the addresses over

@@ -8,5 +8,6 @@ pub mod WholeSlice
 pub mod Refusals
 pub mod Returned
 pub mod Footprint
+pub mod ProtocolLaws
 pub mod Outcomes
 pub mod EmptyKernel

@@ -7,6 +7,7 @@ pub mod Kernel
 pub mod Plan
 pub mod Answers
 pub mod Parts
+pub mod Protocol
 -- what theorems are stated with beside it
 pub mod Copied
 pub mod Returned

@@ -13,4 +13,5 @@ pub mod header;
 mod kernel;
 pub mod parts;
 mod plan;
+pub mod protocol;
 pub mod setup_header;

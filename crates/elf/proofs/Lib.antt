@@ -15,6 +15,7 @@ pub mod MoreMemory
 pub mod SameRooms
 pub mod WholeSlice
 pub mod PartsLaws
+pub mod MemoryLaws
 pub mod Results
 pub mod FileSizeStays
 pub mod ListedNumbers

@@ -14,6 +14,8 @@ use Rattle.elf.proofs.parts.table.Kinds as table-kinds
 use Rattle.elf.proofs.parts.table.Reads as table-reads
 use Rattle.elf.proofs.parts.part.Kinds as parts-part-kinds
 use Rattle.elf.proofs.parts.part.Reads as parts-part-reads
+use Rattle.elf.proofs.memory.memory.Kinds as memory-kinds
+use Rattle.elf.proofs.memory.memory.Reads as memory-reads
 
 pub parse-elf-note-one : OneOutcome 1 parse-elf-note-kinds.ps parse-elf-note-kinds.r parse-elf-note-reads.Post
 parse-elf-note-one κs a z z' ws ws' p q = (meet p q, refl)
@@ -32,3 +34,6 @@ of-header-one κs a z z' ws ws' p q = (meet p q, refl)
 
 pub table-one : OneOutcome 1 table-kinds.ps table-kinds.r table-reads.Post
 table-one κs a z z' ws ws' p q = (meet p q, refl)
+
+pub memory-one : OneOutcome 1 memory-kinds.ps memory-kinds.r memory-reads.Post
+memory-one κs a z z' ws ws' p q = (meet p q, refl)

@@ -9,6 +9,7 @@ pub mod Survey
 pub mod Pouring
 pub mod Load
 pub mod Parts
+pub mod Memory
 -- what theorems are stated with beside it
 pub mod Listing
 pub mod Verdict

@@ -18,6 +18,7 @@ use guest::PvhBootCapability;
 use guest::sizes;
 
 mod header;
+pub mod memory;
 mod notes;
 pub mod parts;
 mod program_headers;

@@ -18,10 +18,14 @@ use Rattle.guest.proofs.maps.from_numbers.Kinds as from-numbers-kinds
 use Rattle.guest.proofs.maps.from_numbers.Reads as from-numbers-reads
 use Rattle.guest.proofs.room.has_room.Kinds as has-room-kinds
 use Rattle.guest.proofs.room.has_room.Reads as has-room-reads
+use Rattle.guest.proofs.room.room_for.Kinds as room-for-kinds
+use Rattle.guest.proofs.room.room_for.Reads as room-for-reads
 use Rattle.guest.proofs.lent.ask_memory.Kinds as ask-memory-kinds
 use Rattle.guest.proofs.lent.ask_memory.Reads as ask-memory-reads
 use Rattle.guest.proofs.lent.ask.Kinds as ask-kinds
 use Rattle.guest.proofs.lent.ask.Reads as ask-reads
+use Rattle.guest.proofs.extents.none.Kinds as none-kinds
+use Rattle.guest.proofs.extents.none.Reads as none-reads
 use Rattle.guest.proofs.copying.copy_image.Kinds as copy-image-kinds
 use Rattle.guest.proofs.copying.copy_image.Reads as copy-image-reads
 use Rattle.guest.proofs.maps.same.Kinds as same-kinds
@@ -62,11 +66,17 @@ from-numbers-one κs a z z' ws ws' p q = (meet p q, refl)
 pub has-room-one : OneOutcome 0 has-room-kinds.ps has-room-kinds.r has-room-reads.Post
 has-room-one κs a z z' ws ws' p q = (meet p q, refl)
 
+pub room-for-one : OneOutcome 0 room-for-kinds.ps room-for-kinds.r room-for-reads.Post
+room-for-one κs a z z' ws ws' p q = (meet p q, refl)
+
 pub ask-memory-one : OneOutcome 0 ask-memory-kinds.ps ask-memory-kinds.r ask-memory-reads.Post
 ask-memory-one κs a z z' ws ws' p q = (meet p q, refl)
 
 pub ask-one : OneOutcome 0 ask-kinds.ps ask-kinds.r ask-reads.Post
 ask-one κs a z z' ws ws' p q = (meet p q, refl)
+
+pub none-one : OneOutcome 0 none-kinds.ps none-kinds.r none-reads.Post
+none-one κs a z z' ws ws' p q = (meet p q, refl)
 
 pub copy-image-one : OneOutcome 2 copy-image-kinds.ps copy-image-kinds.r copy-image-reads.Post
 copy-image-one κs a z z' ws ws' p q = (refl, first (meet p q))

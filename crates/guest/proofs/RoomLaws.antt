@@ -5,9 +5,10 @@ use mathlib.Core.List.{List, [], _∷_, _++_}
 use Prim.Native.Nat.{ℕ, _+_, _≤_, _<_}
 use native.Mathlib.Omega.{arith}
 use native.Mathlib.Decide.{decLe}
-use borrow.Author.Tests.{le-leb, eq-eqb}
+use borrow.Author.Tests.{le-leb, eq-eqb, ne-eqb}
 use lib.Dec.{leb}
 use lib.ListN.{length, length-append}
+use Rattle.answers.specs.Pick.{pick}
 use Rattle.answers.specs.Tests.{Test, asked, askedAll}
 use Rattle.answers.specs.declared.Gate.{Gate}
 use Rattle.answers.specs.declared.Refusal.{Refusal}
@@ -18,7 +19,7 @@ use Rattle.answers.proofs.KeepingLaws.{Widens, end, stays}
 use Rattle.fields.specs.Ranges.{liesWithin}
 use Rattle.fields.proofs.RangesLaws.{within-sum, sum-within, sum-beyond}
 use Rattle.guest.specs.Maps.{rangesOf, inRanges, mostRanges, goodRanges, goodMap, wholeMap}
-use Rattle.guest.specs.Room.{room, sameMemory, Grows, Larger, slice-longer, range-added, last-longer, in-turn, memoryOf, wholeOf}
+use Rattle.guest.specs.Room.{room, roomFor, sameMemory, Grows, Larger, slice-longer, range-added, last-longer, in-turn, memoryOf, wholeOf}
 use Rattle.guest.specs.Lent.{memoryTests, lentTests}
 use Rattle.guest.specs.Sizes.{allowed, longest}
 use Rattle.guest.specs.declared.Map.{Map}
@@ -58,6 +59,15 @@ pub room-part : (m : Memory) (address n at k : ℕ) → room m address n ≡ tru
 room-part m address n at k e from below =
     let is = room-means m address n e in
     means-room m at k (omega arith) (in-part (rangesOf (m .map)) address n at k (is .1) from below)
+
+-- a piece that may be empty: 0 bytes have room, and for others it is `room`
+pub room-for-none : (m : Memory) (address n : ℕ) → n ≡ 0 → roomFor m address n ≡ true
+unfolding roomFor pick
+room-for-none m address n e = rw (eq-eqb n 0 e)
+
+pub room-for-some : (m : Memory) (address n : ℕ) → 0 < n → roomFor m address n ≡ room m address n
+unfolding roomFor pick
+room-for-some m address n some = rw (ne-eqb n 0 (λ e. omega arith))
 
 -- a memory is the same as itself
 pub memory-self : (m : Memory) → sameMemory m m ≡ true

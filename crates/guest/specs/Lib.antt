@@ -3,6 +3,7 @@ pub mod Addresses
 pub mod Sizes
 pub mod Maps
 pub mod Room
+pub mod Extents
 pub mod Lent
 pub mod Stream
 pub mod Loading

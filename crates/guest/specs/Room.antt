@@ -5,6 +5,7 @@ use mathlib.Core.List.{List, [], _∷_, _++_}
 use Prim.Native.Nat.{ℕ, _≤_}
 use lib.Dec.{eqb}
 use lib.ListN.{length}
+use Rattle.answers.specs.Pick.{pick}
 use Rattle.fields.specs.Ranges.{liesWithin}
 use Rattle.guest.specs.Maps.{Range, rangesOf, inRanges, wholeMap, sameMap}
 use Rattle.guest.specs.declared.Map.{Map}
@@ -13,6 +14,10 @@ use Rattle.guest.specs.declared.Memory.{Memory}
 -- do n bytes at an address lie in guest memory, within its slice and in one of its ranges? The sum is the whole number
 unfoldable pub room : Memory → ℕ → ℕ → Bool
 room m address n = liesWithin (m .size) address n && inRanges (rangesOf (m .map)) address n
+
+-- the same for a piece that may be empty: 0 bytes have room at every address
+unfoldable pub roomFor : Memory → ℕ → ℕ → Bool
+roomFor m address n = pick (eqb n 0) true (room m address n)
 
 -- are two memories the same, by size and range by range?
 unfoldable pub sameMemory : Memory → Memory → Bool

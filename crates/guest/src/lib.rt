@@ -4,6 +4,7 @@ use answers::Refusal;
 
 pub mod addresses;
 pub mod copying;
+pub mod extents;
 pub mod lent;
 pub mod maps;
 pub mod parts;
@@ -35,6 +36,12 @@ pub struct Map {
 pub struct Memory {
     pub size: u64,
     pub map: Map,
+}
+
+// A range of guest memory.
+pub struct Extent {
+    pub at: GuestAddress,
+    pub size: u64,
 }
 
 // A part of the image that goes to one address.

@@ -1,6 +1,6 @@
 // Room in guest memory.
 ghost use mathlib.Core.Path.{_≡_};
-ghost use Rattle.guest.specs.Room.{room, sameMemory};
+ghost use Rattle.guest.specs.Room.{room, roomFor, sameMemory};
 use crate::GuestAddress;
 use crate::Memory;
 use crate::maps;
@@ -15,6 +15,16 @@ pub fn has_room(memory: Memory, address: GuestAddress, n: u64) -> bool
     }
     let map = memory.map;
     maps::in_map(map, address.0, n)
+}
+
+// The same for a piece that may be empty: 0 bytes have room at every address.
+pub fn room_for(memory: Memory, address: GuestAddress, n: u64) -> bool
+    ensures { λ r. ⌜ r ≡ roomFor memory (address .0) n ⌝ }
+{
+    if n == 0 {
+        return true;
+    }
+    has_room(memory, address, n)
 }
 
 // Are two memories the same?

@@ -31,7 +31,7 @@ use Rattle.loader.specs.declared.Answer.the-variants.{Loaded, Refused}
 use Rattle.loader.specs.Lines.{lineBytes, textRow, roomRow, tests, linePlan, planOf, LineLoads}
 
 -- the line and its zero have the counted size
-line-length : (b i : List ℕ) → length (lineBytes (bare b i)) ≡ sizeOf (length b) (length i)
+pub line-length : (b i : List ℕ) → length (lineBytes (bare b i)) ≡ sizeOf (length b) (length i)
 line-length b i = length-append (wholeLine b i) (0 ∷ []) ∙ whole-size b i
 
 -- the tests as code asks them, one after the other

@@ -12,6 +12,8 @@ use Rattle.loads.proofs.formats.count.Kinds as count-kinds
 use Rattle.loads.proofs.formats.count.Reads as count-reads
 use Rattle.loads.proofs.formats.part.Kinds as part-kinds
 use Rattle.loads.proofs.formats.part.Reads as part-reads
+use Rattle.loads.proofs.formats.memory.Kinds as memory-kinds
+use Rattle.loads.proofs.formats.memory.Reads as memory-reads
 use Rattle.loads.proofs.calls.is_fresh.Kinds as is-fresh-kinds
 use Rattle.loads.proofs.calls.is_fresh.Reads as is-fresh-reads
 use Rattle.loads.proofs.calls.ask.Kinds as ask-kinds
@@ -44,6 +46,9 @@ count-one κs a z z' ws ws' p q = (meet p q, refl)
 
 pub part-one : OneOutcome 1 part-kinds.ps part-kinds.r part-reads.Post
 part-one κs a z z' ws ws' p q = (meet p q, refl)
+
+pub memory-one : OneOutcome 1 memory-kinds.ps memory-kinds.r memory-reads.Post
+memory-one κs a z z' ws ws' p q = (meet p q, refl)
 
 pub is-fresh-one : OneOutcome 0 is-fresh-kinds.ps is-fresh-kinds.r is-fresh-reads.Post
 is-fresh-one κs a z z' ws ws' p q = (meet p q, refl)

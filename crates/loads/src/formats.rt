@@ -3,7 +3,7 @@ ghost use mathlib.Core.Path.{_≡_};
 ghost use mathlib.Core.Bool.{true};
 ghost use Prim.Native.Nat.{_+_, _*_, _≤_};
 ghost use lib.ListN.{length};
-ghost use Rattle.loads.specs.Formats.{answerOf, countOf, onlyAt, partOf};
+ghost use Rattle.loads.specs.Formats.{answerOf, countOf, onlyAt, partOf, onlyMemory, memoryOf};
 ghost use Rattle.loads.specs.Kinds.{kindOf};
 ghost use Rattle.loads.specs.Layout.{layoutOf, partIn};
 use crate::Format;
@@ -12,11 +12,13 @@ use bzimage::setup_header;
 use fields::numbers;
 use fields::tags;
 use guest::Answer;
+use guest::Extent;
 use guest::GuestAddress;
 use guest::ImagePlace;
 use guest::Memory;
 use guest::Part;
 use guest::addresses;
+use guest::extents;
 use guest::parts;
 
 // What an image is by its magic number.
@@ -85,6 +87,29 @@ pub fn part(image: &[u8], options: Options, i: u64) -> Part
         Format::BzImage => only(bzimage::parts::part(image, offset), i),
         Format::Arm64 => only(
             arm64::parts::part(image, GuestAddress(addresses::amount(offset))),
+            i,
+        ),
+    }
+}
+
+// The memory of a load that has one range only, by its number.
+fn only_memory(memory: Extent, i: u64) -> Extent
+    ensures { λ r. ⌜ r ≡ onlyMemory memory i ⌝ }
+{
+    if i == 0 { memory } else { extents::none() }
+}
+
+// The memory that part i of a load takes, which may be more than its bytes; from the count on there is none.
+pub fn memory(image: &[u8], options: Options, i: u64) -> Extent
+    ensures { λ r. ⌜ r ≡ memoryOf (now (image .entry)) options i ⌝ }
+{
+    let format = options.format;
+    let offset = options.kernel_offset;
+    match format {
+        Format::Elf => elf::memory::memory(image, offset, i),
+        Format::BzImage => only_memory(bzimage::protocol::runtime_memory(image, offset), i),
+        Format::Arm64 => only_memory(
+            arm64::parts::memory(image, GuestAddress(addresses::amount(offset))),
             i,
         ),
     }

@@ -1,5 +1,5 @@
 -- The start block that is written with its lists, and what writing it answers and leaves.
-use Prim.Native.Nat.{ℕ}
+use Prim.Native.Nat.{ℕ, _+_}
 use mathlib.Core.List.{List, [], _∷_, _++_}
 use lib.Dec.{ltb}
 use Rattle.answers.specs.Tests.{Test}
@@ -61,6 +61,10 @@ blockOf start modules ranges =
 -- rows of a kind, from an address on
 abbrev pub streamOf : List ℕ → List ℕ → ℕ → List Poke
 streamOf widths rows address = streamAt address (rowsBytes (fieldWidth widths) rows 0)
+
+-- how many bytes the block and the two lists take
+abbrev pub startSize : List ℕ → List ℕ → ℕ
+startSize modules ranges = blockSize + listSize moduleWidths modules + listSize rangeWidths ranges
 
 -- the block, the modules, the memory map
 abbrev pub startPlan : Start → List ℕ → List ℕ → Plan Gate

@@ -3,7 +3,9 @@ ghost use mathlib.Core.Path.{_≡_};
 ghost use lib.ListN.{length};
 ghost use Rattle.fields.specs.Rows.{fieldWidth, rowsNumbers};
 ghost use Rattle.start_info.specs.Kinds.{moduleWidths, rangeWidths};
-ghost use Rattle.start_info.specs.Writing.{Writes};
+ghost use Rattle.answers.specs.Tests.{askedAll};
+ghost use Rattle.answers.specs.declared.Gate.the-variants.{Open};
+ghost use Rattle.start_info.specs.Writing.{tests, startSize, Writes};
 ghost use Rattle.start_info.specs.Checking.{checkOf, BlockReads};
 use answers::Gate;
 use answers::Refusal;
@@ -25,6 +27,22 @@ pub struct Start {
     pub flags: u32,
     pub command_line: GuestAddress,
     pub rsdp: GuestAddress,
+}
+
+// The checks of a block with its lists: an open gate says that they will be written.
+pub fn plan(memory: Memory, start: Start, modules: &[u64], ranges: &[u64]) -> Gate
+    ensures { λ r. ⌜ r ≡ askedAll Open (tests memory start (now (modules .entry)) (now (ranges .entry))) ⌝ }
+{
+    writing::ask(memory, start, modules, ranges)
+}
+
+// How many bytes the block and its lists take; a list of more than 2^32 rows, which is refused, counts as one of 2^32.
+pub fn size(modules: &[u64], ranges: &[u64]) -> u64
+    ensures { λ r. ⌜ r ≡ startSize (now (modules .entry)) (now (ranges .entry)) ⌝ }
+{
+    let m = kinds::counted(modules.len());
+    let n = kinds::counted(ranges.len());
+    kinds::BLOCK_SIZE + m * kinds::MODULE_SIZE + n * kinds::RANGE_SIZE
 }
 
 // Writes the block and its lists. A row is four numbers, the last of which is reserved and 0: a module's are address, size and command line,
