@@ -1,0 +1,4 @@
+pub mod SearchLaws
+pub mod FitLaws
+pub mod PlacingLaws
+pub mod Outcomes
