@@ -1,0 +1,24 @@
+-- what the theorems rest on
+pub mod BlobsHold
+pub mod KernelLaws
+pub mod GateLaws
+pub mod LineLaws
+pub mod PlanLaws
+pub mod RowsLaws
+pub mod BootsLaws
+pub mod ZeroPageLaws
+pub mod PvhLaws
+pub mod TreeLaws
+pub mod PuttingLaws
+pub mod AllThere
+pub mod PiecesThere
+pub mod GrowLaws
+-- the theorems
+pub mod ZeroPageThere
+pub mod ZeroPageBack
+pub mod PvhThere
+pub mod PvhBack
+pub mod TreeThere
+pub mod MoreMemory
+pub mod EachGrows
+pub mod Outcomes
