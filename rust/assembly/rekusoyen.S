@@ -6,12 +6,16 @@
 #else
 #error "the library is assembly text for Linux on x86-64 and aarch64"
 #endif
+	.globl	rekusoyen_has_room
+	.set	rekusoyen_has_room, rekusoyen_has_room_0_1_0
 	.globl	rekusoyen_job
 	.set	rekusoyen_job, rekusoyen_job_0_1_0
 	.globl	rekusoyen_kind
 	.set	rekusoyen_kind, rekusoyen_kind_0_1_0
 	.globl	rekusoyen_line_add_virtio_mmio_device
 	.set	rekusoyen_line_add_virtio_mmio_device, rekusoyen_line_add_virtio_mmio_device_0_1_0
+	.globl	rekusoyen_line_check
+	.set	rekusoyen_line_check, rekusoyen_line_check_0_1_0
 	.globl	rekusoyen_line_insert
 	.set	rekusoyen_line_insert, rekusoyen_line_insert_0_1_0
 	.globl	rekusoyen_line_insert_init_args
@@ -30,8 +34,22 @@
 	.set	rekusoyen_line_try_from, rekusoyen_line_try_from_0_1_0
 	.globl	rekusoyen_page_build
 	.set	rekusoyen_page_build, rekusoyen_page_build_0_1_0
+	.globl	rekusoyen_put
+	.set	rekusoyen_put, rekusoyen_put_0_1_0
 	.globl	rekusoyen_raw_begin
 	.set	rekusoyen_raw_begin, rekusoyen_raw_begin_0_1_0
+	.globl	rekusoyen_raw_boot_pvh
+	.set	rekusoyen_raw_boot_pvh, rekusoyen_raw_boot_pvh_0_1_0
+	.globl	rekusoyen_raw_boot_pvh_plan
+	.set	rekusoyen_raw_boot_pvh_plan, rekusoyen_raw_boot_pvh_plan_0_1_0
+	.globl	rekusoyen_raw_boot_tree
+	.set	rekusoyen_raw_boot_tree, rekusoyen_raw_boot_tree_0_1_0
+	.globl	rekusoyen_raw_boot_tree_plan
+	.set	rekusoyen_raw_boot_tree_plan, rekusoyen_raw_boot_tree_plan_0_1_0
+	.globl	rekusoyen_raw_boot_zero_page
+	.set	rekusoyen_raw_boot_zero_page, rekusoyen_raw_boot_zero_page_0_1_0
+	.globl	rekusoyen_raw_boot_zero_page_plan
+	.set	rekusoyen_raw_boot_zero_page_plan, rekusoyen_raw_boot_zero_page_plan_0_1_0
 	.globl	rekusoyen_raw_elf_note
 	.set	rekusoyen_raw_elf_note, rekusoyen_raw_elf_note_0_1_0
 	.globl	rekusoyen_raw_line_as_cstring
@@ -46,6 +64,10 @@
 	.set	rekusoyen_raw_page_read, rekusoyen_raw_page_read_0_1_0
 	.globl	rekusoyen_raw_part
 	.set	rekusoyen_raw_part, rekusoyen_raw_part_0_1_0
+	.globl	rekusoyen_raw_place
+	.set	rekusoyen_raw_place, rekusoyen_raw_place_0_1_0
+	.globl	rekusoyen_raw_place_high
+	.set	rekusoyen_raw_place_high, rekusoyen_raw_place_high_0_1_0
 	.globl	rekusoyen_raw_plan
 	.set	rekusoyen_raw_plan, rekusoyen_raw_plan_0_1_0
 	.globl	rekusoyen_raw_start_block

@@ -1,0 +1,4 @@
+pub mod CallsLaws
+pub mod AloneLaws
+pub mod PlacesLaws
+pub mod Outcomes
