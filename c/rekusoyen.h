@@ -1,12 +1,13 @@
 /*
- * The proved kernel loader for C and C++: ELF images with their PVH note, bzImages, arm64 Images, and the kernel
- * command line. A program includes this header and links the library, static or shared, which `make -C c` builds and
- * installs: `cc program.c $(pkg-config --cflags --libs rekusoyen)`; or it takes the library's text as one more source
- * file, rust/assembly/rekusoyen.S.
+ * The proved kernel loader for C and C++: ELF images with their PVH note, bzImages, arm64 Images, the kernel command
+ * line, and a whole boot by one call. A program includes this header and links the library, static or shared, which
+ * `make -C c` builds and installs: `cc program.c $(pkg-config --cflags --libs rekusoyen)`; or it takes the library's
+ * text as one more source file, rust/assembly/rekusoyen.S.
  *
- * Answers. Every function that returns a uint32_t, but rekusoyen_kind, returns REKUSOYEN_ACCEPTED or one refusal. Its
- * comment lists its refusals in the order in which they are checked, without the prefix REKUSOYEN_: the first whose
- * condition holds is the answer. What a comment does not name as changed is as it was before the call.
+ * Answers. Every function that returns a uint32_t, but rekusoyen_kind and rekusoyen_has_room, returns
+ * REKUSOYEN_ACCEPTED or one refusal. Its comment lists its refusals in the order in which they are checked, without the
+ * prefix REKUSOYEN_: the first whose condition holds is the answer. What a comment does not name as changed is as it
+ * was before the call.
  *
  * Results. A function that returns more than an answer writes it to a struct of numbers with names, or to one number.
  * Such a function is `static inline`, over one of the same name with the prefix rekusoyen_raw_, which takes the struct
@@ -91,8 +92,8 @@ enum rekusoyen_answer {
     /* limits of the arguments */
     REKUSOYEN_SLICE_TOO_LONG = 60,                 /* an image or guest memory of more than 2^40 bytes */
     REKUSOYEN_BAD_LIST = 61,                       /* ends that fall or do not end with the values; part of a row, or
-                                                    * a number that does not fit its field; an unknown format; a
-                                                    * state that no call wrote */
+                                                    * a number that does not fit its field; an unknown format or
+                                                    * entry; a state that no call wrote */
     REKUSOYEN_NO_ROOM = 62,                        /* a buffer of a wrong size, or one too short for the line */
 
     /* a load in steps */
@@ -131,7 +132,27 @@ enum rekusoyen_answer {
     REKUSOYEN_UNALIGNED_BASE = 85,                 /* the base is not a multiple of 2 MiB */
     REKUSOYEN_IMAGE_START_WRAPS = 86,              /* base and text offset add up to 2^64 or more */
     REKUSOYEN_NO_ROOM_FOR_IMAGE = 87,              /* the file has no room in one range of guest memory */
-    REKUSOYEN_IMAGE_END_WRAPS = 88                 /* start and image size add up to 2^64 or more */
+    REKUSOYEN_IMAGE_END_WRAPS = 88,                /* start and image size add up to 2^64 or more */
+
+    /* a whole boot */
+    REKUSOYEN_LINE_TOO_LONG = 91,                  /* a line longer than the kernel takes */
+    REKUSOYEN_WRONG_ENTRY = 92,                    /* an image of this format is not entered in this way */
+    REKUSOYEN_NO_64_BIT_ENTRY = 93,                /* a bzImage whose xloadflags have no 64-bit entry */
+    REKUSOYEN_NO_PVH_ENTRY = 94,                   /* a PVH boot of an image without a PVH entry */
+    REKUSOYEN_LINE_NOT_IN_TREE = 95,               /* the device tree has not the line and its zero at the offset */
+    REKUSOYEN_KERNEL_OUTSIDE = 96,                 /* kernel memory that is not in one range of guest memory */
+    REKUSOYEN_RAMDISK_OUTSIDE = 97,                /* a ramdisk that is not in one range of guest memory */
+    REKUSOYEN_BOOT_DATA_OUTSIDE = 98,              /* a page or device tree that is not in one range of guest memory */
+    REKUSOYEN_RAMDISK_TOO_HIGH = 99,               /* a ramdisk that ends above initrd_addr_max */
+    REKUSOYEN_KERNEL_MEETS_LINE = 100,             /* kernel memory and the line share a byte */
+    REKUSOYEN_KERNEL_MEETS_RAMDISK = 101,          /* kernel memory and the ramdisk share a byte */
+    REKUSOYEN_KERNEL_MEETS_BOOT_DATA = 102,        /* kernel memory shares a byte with page, start block or tree */
+    REKUSOYEN_LINE_MEETS_RAMDISK = 103,            /* the line and the ramdisk share a byte */
+    REKUSOYEN_LINE_MEETS_BOOT_DATA = 104,          /* the line shares a byte with page, start block or tree */
+    REKUSOYEN_RAMDISK_MEETS_BOOT_DATA = 105,       /* the ramdisk shares a byte with page, start block or tree */
+    REKUSOYEN_KERNEL_NOT_IN_ROWS = 106,            /* kernel memory outside the memory map's rows of type 1 */
+    REKUSOYEN_LINE_NOT_IN_ROWS = 107,              /* a line outside the memory map's rows of type 1 */
+    REKUSOYEN_RAMDISK_NOT_IN_ROWS = 108            /* a ramdisk outside the memory map's rows of type 1 */
 };
 
 /* Every answer with what it means: ROW(NAME, SENTENCE), the name without its prefix. For tables of a program's own. */
@@ -191,7 +212,25 @@ enum rekusoyen_answer {
     ROW(UNALIGNED_BASE, "The base address is not a multiple of 2 MiB.") \
     ROW(IMAGE_START_WRAPS, "The address of the arm64 Image does not fit into 64 bits.") \
     ROW(NO_ROOM_FOR_IMAGE, "The file of the arm64 Image has no room in one range of guest memory.") \
-    ROW(IMAGE_END_WRAPS, "The end of the arm64 Image does not fit into 64 bits.")
+    ROW(IMAGE_END_WRAPS, "The end of the arm64 Image does not fit into 64 bits.") \
+    ROW(LINE_TOO_LONG, "The line is longer than the kernel takes.") \
+    ROW(WRONG_ENTRY, "An image of this format is not entered in this way.") \
+    ROW(NO_64_BIT_ENTRY, "The bzImage has no 64-bit entry.") \
+    ROW(NO_PVH_ENTRY, "The image has no PVH entry, and the boot is a PVH boot.") \
+    ROW(LINE_NOT_IN_TREE, "The device tree does not hold the line and its zero at the offset that was given.") \
+    ROW(KERNEL_OUTSIDE, "The kernel's memory is not in one range of guest memory.") \
+    ROW(RAMDISK_OUTSIDE, "The ramdisk is not in one range of guest memory.") \
+    ROW(BOOT_DATA_OUTSIDE, "The boot page or the device tree is not in one range of guest memory.") \
+    ROW(RAMDISK_TOO_HIGH, "The ramdisk ends above the highest address that the kernel takes.") \
+    ROW(KERNEL_MEETS_LINE, "The kernel's memory and the line share a byte.") \
+    ROW(KERNEL_MEETS_RAMDISK, "The kernel's memory and the ramdisk share a byte.") \
+    ROW(KERNEL_MEETS_BOOT_DATA, "The kernel's memory shares a byte with the boot page, the start block or the device tree.") \
+    ROW(LINE_MEETS_RAMDISK, "The line and the ramdisk share a byte.") \
+    ROW(LINE_MEETS_BOOT_DATA, "The line shares a byte with the boot page, the start block or the device tree.") \
+    ROW(RAMDISK_MEETS_BOOT_DATA, "The ramdisk shares a byte with the boot page, the start block or the device tree.") \
+    ROW(KERNEL_NOT_IN_ROWS, "The kernel's memory is not all in rows of type 1 of the guest's memory map.") \
+    ROW(LINE_NOT_IN_ROWS, "The line is not all in rows of type 1 of the guest's memory map.") \
+    ROW(RAMDISK_NOT_IN_ROWS, "The ramdisk is not all in rows of type 1 of the guest's memory map.")
 
 /* The name of an answer without its prefix, as "READ_KERNEL_IMAGE"; NULL of a number that no function answers. */
 static inline const char *rekusoyen_answer_name(uint32_t answer)
@@ -218,11 +257,13 @@ static inline const char *rekusoyen_answer_sentence(uint32_t answer)
 /*
  * The stack that a call uses at most, without what memcpy, memmove and memset themselves use: a load of an image, its
  * plan or a part of it, a note walk, a boot page or a start block; a load in steps, its begin and a step; a call on a
- * line; and a job, which has its guest memory there. The tests of this header measure every function (c/tests/stack.c).
+ * line; a whole boot, its plan, and the calls for its pieces; and a job, which has its guest memory there. The tests of
+ * this header measure every function (c/tests/stack.c).
  */
 #define REKUSOYEN_LOAD_STACK_SIZE ((size_t)2048)
 #define REKUSOYEN_STEP_STACK_SIZE ((size_t)8192)
 #define REKUSOYEN_LINE_STACK_SIZE ((size_t)4096)
+#define REKUSOYEN_BOOT_STACK_SIZE ((size_t)8192)
 #define REKUSOYEN_JOB_STACK_SIZE ((size_t)262144)
 
 /* ---- guest memory */
@@ -1053,6 +1094,370 @@ static inline uint32_t rekusoyen_line_words(
 {
     return rekusoyen_raw_line_words(
         text, text_len, starts, starts_len, ends, ends_len, splits, splits_len, count, 1);
+}
+
+/* ---- a whole boot */
+
+/*
+ * A boot puts all its pieces into guest memory by one call: the kernel, the command line, a ramdisk, and the boot data
+ * that names them. Everything is checked before anything is written. After an accepted boot each piece is there, whole,
+ * at the same time; after a refused one guest memory is as it was.
+ *
+ * The memory that a piece uses:
+ *   kernel     the bytes that its load copies, and the memory that the kernel takes: of ELF p_memsz bytes of every
+ *              loadable segment; of a bzImage of protocol 2.10 or later init_size bytes from the runtime start on,
+ *              which is pref_address if relocatable_kernel is 0, else the greater of load address and pref_address,
+ *              rounded up to a multiple of kernel_alignment (0 counts as 1); of an arm64 Image image size bytes from
+ *              the load address on
+ *   line       the boot text, if there is init text space-dash-dash-space and the init text, and a zero. In a boot with
+ *              a device tree the line is in the tree, and no piece of its own
+ *   ramdisk    its bytes; one of no bytes is apart from everything and needs no room
+ *   boot data  the zero page, or the start block with its list of modules and its memory map, one after the other, or
+ *              the device tree
+ *
+ * How a kernel is entered:
+ *
+ * REKUSOYEN_ENTRY_ZERO_PAGE. A bzImage in 32-bit mode, or with the flag REKUSOYEN_ENTRY_64_BIT a bzImage or ELF image
+ * in 64-bit mode. The page is what rekusoyen_page_build builds of the image's setup header, as rekusoyen_setup_header
+ * leaves it, the addresses of line and ramdisk, and the rows; for ELF the setup header has boot_flag AA55 hex, HdrS and
+ * a kernel_alignment of 16 MiB, and all else is 0. All addresses are below 2^32.
+ *   entry      the load address; of a bzImage in 64-bit mode 200 hex more
+ *   refusals   WRONG_ENTRY       an arm64 Image, or ELF in 32-bit mode
+ *              NO_64_BIT_ENTRY   a bzImage in 64-bit mode of a protocol below 2.12 or without bit 0 of xloadflags
+ *              WRONG_ENTRY       32-bit mode, and a load address of 2^32 or more
+ *
+ * REKUSOYEN_ENTRY_PVH. An ELF image with a PVH entry, in 32-bit mode. The start block is what rekusoyen_start_write
+ * writes of flags 0, the addresses of line and RSDP, one module for the ramdisk (its address, its size, 0, 0) or none
+ * if it has no bytes, and the rows; the modules follow the block, the memory map follows them. The block's address is
+ * below 2^32.
+ *   entry      the PVH entry
+ *   refusals   NO_PVH_ENTRY      the load returns no PVH entry
+ *              WRONG_ENTRY       it is 2^32 or more
+ *
+ * REKUSOYEN_ENTRY_TREE. An arm64 Image. The tree is the caller's, with the whole line and its zero at an offset in it.
+ *   entry      the load address
+ *   refusals   WRONG_ENTRY       another image than an arm64 Image
+ */
+#define REKUSOYEN_ENTRY_ZERO_PAGE 1u
+#define REKUSOYEN_ENTRY_PVH 2u
+#define REKUSOYEN_ENTRY_TREE 3u
+
+/* Flags of a boot, with those of a load: whether a limit is given, and whether the kernel is entered in 64-bit mode. */
+#define REKUSOYEN_LIMIT_GIVEN 4u
+#define REKUSOYEN_ENTRY_64_BIT 8u
+
+/* The two texts of a line, without a zero; init_len is 0 if there is no init text. */
+struct rekusoyen_texts {
+    const uint8_t *boot;
+    size_t boot_len;
+    const uint8_t *init;
+    size_t init_len;
+};
+
+/*
+ * The two texts of a line that is stored in bytes. They are in the line: it must outlive them, and not change.
+ *
+ * Refusals:
+ *   NO_ROOM           line_len is not REKUSOYEN_LINE_SIZE
+ *   INVALID_CAPACITY  the bytes hold no line
+ *
+ * Leaves, accepted: in texts the two texts. Leaves, refused: texts as it was.
+ */
+static inline uint32_t rekusoyen_line_texts(const uint8_t *line, size_t line_len, struct rekusoyen_texts *texts)
+{
+    /* the plan of a load into no memory checks the line first, and then refuses it with another answer */
+    const uint32_t answer = rekusoyen_line_plan(0, NULL, 0, 0, line, line_len);
+    size_t lengths[2] = {0, 0};
+    int i;
+    if (answer == REKUSOYEN_NO_ROOM || answer == REKUSOYEN_INVALID_CAPACITY)
+        return answer;
+    for (i = 0; i < 16; i++)
+        lengths[i / 8] |= (size_t)line[i] << (8 * (i % 8));
+    texts->boot = line + 24;
+    texts->boot_len = lengths[0];
+    texts->init = line + 24 + REKUSOYEN_LINE_LIMIT;
+    texts->init_len = lengths[1];
+    return REKUSOYEN_ACCEPTED;
+}
+
+/* A boot. Fields that its entry does not name are not looked at, unless a comment says so. */
+struct rekusoyen_boot {
+    const uint8_t *image; /* the whole file */
+    size_t image_len;
+    uint32_t format;          /* of the image */
+    uint32_t entry;           /* REKUSOYEN_ENTRY_ZERO_PAGE, REKUSOYEN_ENTRY_PVH or REKUSOYEN_ENTRY_TREE */
+    uint32_t flags;           /* which of offset, highmem and limit are given; by zero page, the mode */
+    uint32_t limit;           /* the most bytes of a line, its zero not counted, for ELF and arm64: 2047 if not given */
+    uint64_t offset, highmem; /* as of rekusoyen_load */
+    struct rekusoyen_texts line; /* with a device tree its boot text is the whole line, and there is no init text */
+    const uint8_t *ramdisk;      /* not looked at by rekusoyen_boot_plan, but its length is */
+    size_t ramdisk_len;          /* 0 without one */
+    const uint64_t *rows; /* of the memory map that the guest is given: by zero page three numbers each, by PVH four */
+    size_t rows_len;
+    const uint8_t *tree; /* the device tree */
+    size_t tree_len;
+    uint64_t line_at;    /* the guest address of the line; with a device tree, the offset of the line in the tree */
+    uint64_t ramdisk_at; /* the guest address of the ramdisk, and 0 without one */
+    uint64_t data_at;    /* the guest address of the zero page, of the start block, or of the device tree */
+    uint64_t rsdp;       /* by PVH: the guest address of the RSDP, and 0 without one */
+};
+
+/* What an accepted boot returns. */
+#define REKUSOYEN_BOOTED_NUMBERS 7
+struct rekusoyen_booted {
+    struct rekusoyen_kernel kernel; /* what the load of the kernel returns */
+    uint64_t entry;                 /* the address at which the kernel is entered */
+};
+
+/* The raw calls of a boot and of its plan, one for each entry. The inline functions below are one call for all. */
+uint32_t rekusoyen_raw_boot_zero_page(
+    uint8_t *guest, size_t guest_len, const uint64_t *map, size_t map_len, const uint8_t *image, size_t image_len,
+    uint32_t format, uint32_t flags, uint64_t offset, uint64_t highmem, uint32_t limit, const uint8_t *text,
+    size_t text_len, const uint8_t *init, size_t init_len, const uint8_t *ramdisk, size_t ramdisk_len,
+    const uint64_t *rows, size_t rows_len, uint32_t line, uint32_t ramdisk_at, uint32_t page, uint64_t *booted,
+    size_t booted_len);
+uint32_t rekusoyen_raw_boot_pvh(
+    uint8_t *guest, size_t guest_len, const uint64_t *map, size_t map_len, const uint8_t *image, size_t image_len,
+    uint32_t format, uint32_t flags, uint64_t offset, uint64_t highmem, uint32_t limit, const uint8_t *text,
+    size_t text_len, const uint8_t *init, size_t init_len, const uint8_t *ramdisk, size_t ramdisk_len,
+    const uint64_t *rows, size_t rows_len, uint64_t line, uint64_t ramdisk_at, uint32_t block, uint64_t rsdp,
+    uint64_t *booted, size_t booted_len);
+uint32_t rekusoyen_raw_boot_tree(
+    uint8_t *guest, size_t guest_len, const uint64_t *map, size_t map_len, const uint8_t *image, size_t image_len,
+    uint32_t format, uint32_t flags, uint64_t offset, uint64_t highmem, uint32_t limit, const uint8_t *text,
+    size_t text_len, const uint8_t *ramdisk, size_t ramdisk_len, const uint8_t *tree, size_t tree_len,
+    uint64_t line_offset, uint64_t ramdisk_at, uint64_t tree_at, uint64_t *booted, size_t booted_len);
+uint32_t rekusoyen_raw_boot_zero_page_plan(
+    uint64_t memory_size, const uint64_t *map, size_t map_len, const uint8_t *image, size_t image_len,
+    uint32_t format, uint32_t flags, uint64_t offset, uint64_t highmem, uint32_t limit, const uint8_t *text,
+    size_t text_len, const uint8_t *init, size_t init_len, uint64_t ramdisk_len, const uint64_t *rows, size_t rows_len,
+    uint32_t line, uint32_t ramdisk_at, uint32_t page, uint64_t *booted, size_t booted_len);
+uint32_t rekusoyen_raw_boot_pvh_plan(
+    uint64_t memory_size, const uint64_t *map, size_t map_len, const uint8_t *image, size_t image_len,
+    uint32_t format, uint32_t flags, uint64_t offset, uint64_t highmem, uint32_t limit, const uint8_t *text,
+    size_t text_len, const uint8_t *init, size_t init_len, uint64_t ramdisk_len, const uint64_t *rows, size_t rows_len,
+    uint64_t line, uint64_t ramdisk_at, uint32_t block, uint64_t rsdp, uint64_t *booted, size_t booted_len);
+uint32_t rekusoyen_raw_boot_tree_plan(
+    uint64_t memory_size, const uint64_t *map, size_t map_len, const uint8_t *image, size_t image_len,
+    uint32_t format, uint32_t flags, uint64_t offset, uint64_t highmem, uint32_t limit, const uint8_t *text,
+    size_t text_len, uint64_t ramdisk_len, const uint8_t *tree, size_t tree_len, uint64_t line_offset,
+    uint64_t ramdisk_at, uint64_t tree_at, uint64_t *booted, size_t booted_len);
+
+/* Whether the raw call of the boot's entry can be given its fields: see the first refusal of rekusoyen_boot. */
+static inline int rekusoyen_boot_fits(const struct rekusoyen_boot *boot)
+{
+    switch (boot->entry) {
+    case REKUSOYEN_ENTRY_ZERO_PAGE: return ((boot->line_at | boot->ramdisk_at | boot->data_at) >> 32) == 0;
+    case REKUSOYEN_ENTRY_PVH: return (boot->data_at >> 32) == 0;
+    case REKUSOYEN_ENTRY_TREE: return boot->line.init_len == 0;
+    default: return 0;
+    }
+}
+
+/*
+ * Puts all pieces of a boot into guest memory: the kernel, the line, the ramdisk, and page, start block or tree.
+ *
+ *   guest   guest memory, its first byte at guest address 0
+ *   map     its ranges
+ *   boot    the boot; what it points to overlaps neither guest nor booted
+ *   booted  the result
+ *
+ * Refusals:
+ *   BAD_LIST              the entry is none of the three; by zero page an address is 2^32 or more; by PVH the start
+ *                         block's is; with a device tree there is init text
+ *   BAD_LIST, SLICE_TOO_LONG, BAD_MAP and those of the format, as of rekusoyen_load
+ *   WRONG_ENTRY, NO_64_BIT_ENTRY, NO_PVH_ENTRY, as the entry above has them
+ *   INVALID_COMMAND_LINE  there is init text and no boot text, or a zero byte within the text
+ *   COMMAND_LINE_OVERFLOW, by zero page and PVH: the line has no room at its address
+ *   LINE_NOT_IN_TREE, with a device tree: the tree does not hold the text and a zero at the offset
+ *   BAD_LIST, TOO_MANY_ROWS, BAD_ROW, by zero page: as of rekusoyen_page_build
+ *   BAD_LIST, BAD_PART, by PVH: as of rekusoyen_start_write
+ *   RAMDISK_TOO_HIGH, by zero page: the ramdisk ends above initrd_addr_max, which is 37FFFFFF hex for a protocol below
+ *                         2.03 and FFFFFFFF hex for ELF, or it has 2^32 bytes or more
+ *   LINE_TOO_LONG         the line has more bytes, its zero not counted, than the kernel takes: cmdline_size of a
+ *                         bzImage of protocol 2.06 or later, 255 of an older one, the limit for ELF and arm64
+ *   KERNEL_OUTSIDE        a range of memory that the kernel takes has no room
+ *   RAMDISK_OUTSIDE       the ramdisk has no room
+ *   BOOT_DATA_OUTSIDE     page, start block or tree has no room
+ *   KERNEL_MEETS_LINE, KERNEL_MEETS_RAMDISK, KERNEL_MEETS_BOOT_DATA, LINE_MEETS_RAMDISK, LINE_MEETS_BOOT_DATA,
+ *   RAMDISK_MEETS_BOOT_DATA: two pieces share a byte
+ *   KERNEL_NOT_IN_ROWS, LINE_NOT_IN_ROWS, RAMDISK_NOT_IN_ROWS, by zero page and PVH: a range of the kernel's, the line
+ *                         or the ramdisk has bytes, and is not within one row of type 1
+ *
+ * Leaves, accepted: in guest the bytes of every piece; in booted the result. Leaves, refused: guest and booted as they
+ * were.
+ */
+static inline uint32_t rekusoyen_boot(
+    uint8_t *guest, size_t guest_len,
+    const uint64_t *map, size_t map_len,
+    const struct rekusoyen_boot *boot,
+    struct rekusoyen_booted *booted)
+{
+    uint64_t *const numbers = (uint64_t *)booted;
+    const struct rekusoyen_texts *const line = &boot->line;
+    if (!rekusoyen_boot_fits(boot))
+        return REKUSOYEN_BAD_LIST;
+    switch (boot->entry) {
+    case REKUSOYEN_ENTRY_ZERO_PAGE:
+        return rekusoyen_raw_boot_zero_page(
+            guest, guest_len, map, map_len, boot->image, boot->image_len, boot->format, boot->flags, boot->offset,
+            boot->highmem, boot->limit, line->boot, line->boot_len, line->init, line->init_len, boot->ramdisk,
+            boot->ramdisk_len, boot->rows, boot->rows_len, (uint32_t)boot->line_at, (uint32_t)boot->ramdisk_at,
+            (uint32_t)boot->data_at, numbers, REKUSOYEN_BOOTED_NUMBERS);
+    case REKUSOYEN_ENTRY_PVH:
+        return rekusoyen_raw_boot_pvh(
+            guest, guest_len, map, map_len, boot->image, boot->image_len, boot->format, boot->flags, boot->offset,
+            boot->highmem, boot->limit, line->boot, line->boot_len, line->init, line->init_len, boot->ramdisk,
+            boot->ramdisk_len, boot->rows, boot->rows_len, boot->line_at, boot->ramdisk_at, (uint32_t)boot->data_at,
+            boot->rsdp, numbers, REKUSOYEN_BOOTED_NUMBERS);
+    default:
+        return rekusoyen_raw_boot_tree(
+            guest, guest_len, map, map_len, boot->image, boot->image_len, boot->format, boot->flags, boot->offset,
+            boot->highmem, boot->limit, line->boot, line->boot_len, boot->ramdisk, boot->ramdisk_len, boot->tree,
+            boot->tree_len, boot->line_at, boot->ramdisk_at, boot->data_at, numbers, REKUSOYEN_BOOTED_NUMBERS);
+    }
+}
+
+/*
+ * What rekusoyen_boot would answer over guest memory of this size with this map. Nothing is written, and no guest
+ * memory is passed: a program whose guest memory is not one slice copies the pieces itself, the kernel by
+ * rekusoyen_part.
+ *
+ *   memory_size  how many bytes guest memory has; of memory in regions, the end of the last one
+ *   map          its ranges
+ *   boot         the boot; of the ramdisk only the length is looked at
+ *   booted       the result
+ *
+ * Refusals: those of rekusoyen_boot, with memory_size in place of guest_len.
+ *
+ * Leaves, accepted: in booted the result. Leaves, refused: booted as it was.
+ */
+static inline uint32_t rekusoyen_boot_plan(
+    uint64_t memory_size,
+    const uint64_t *map, size_t map_len,
+    const struct rekusoyen_boot *boot,
+    struct rekusoyen_booted *booted)
+{
+    uint64_t *const numbers = (uint64_t *)booted;
+    const struct rekusoyen_texts *const line = &boot->line;
+    if (!rekusoyen_boot_fits(boot))
+        return REKUSOYEN_BAD_LIST;
+    switch (boot->entry) {
+    case REKUSOYEN_ENTRY_ZERO_PAGE:
+        return rekusoyen_raw_boot_zero_page_plan(
+            memory_size, map, map_len, boot->image, boot->image_len, boot->format, boot->flags, boot->offset,
+            boot->highmem, boot->limit, line->boot, line->boot_len, line->init, line->init_len, boot->ramdisk_len,
+            boot->rows, boot->rows_len, (uint32_t)boot->line_at, (uint32_t)boot->ramdisk_at, (uint32_t)boot->data_at,
+            numbers, REKUSOYEN_BOOTED_NUMBERS);
+    case REKUSOYEN_ENTRY_PVH:
+        return rekusoyen_raw_boot_pvh_plan(
+            memory_size, map, map_len, boot->image, boot->image_len, boot->format, boot->flags, boot->offset,
+            boot->highmem, boot->limit, line->boot, line->boot_len, line->init, line->init_len, boot->ramdisk_len,
+            boot->rows, boot->rows_len, boot->line_at, boot->ramdisk_at, (uint32_t)boot->data_at, boot->rsdp, numbers,
+            REKUSOYEN_BOOTED_NUMBERS);
+    default:
+        return rekusoyen_raw_boot_tree_plan(
+            memory_size, map, map_len, boot->image, boot->image_len, boot->format, boot->flags, boot->offset,
+            boot->highmem, boot->limit, line->boot, line->boot_len, boot->ramdisk_len, boot->tree, boot->tree_len,
+            boot->line_at, boot->ramdisk_at, boot->data_at, numbers, REKUSOYEN_BOOTED_NUMBERS);
+    }
+}
+
+/* ---- pieces of a boot, for a program that lays them out itself */
+
+/*
+ * Is a line no longer than the kernel takes? Nothing else of the line or the image is checked.
+ *
+ *   image  the whole file; of a bzImage the version and cmdline_size are looked at
+ *   flags  whether a limit is given
+ *   limit  the most bytes of a line, its zero not counted, for ELF and arm64: 2047 if not given
+ *   text   the boot text
+ *   init   the init text
+ *
+ * Refusals:
+ *   BAD_LIST       the format is none of the three
+ *   LINE_TOO_LONG  as of rekusoyen_boot
+ */
+uint32_t rekusoyen_line_check(
+    const uint8_t *image, size_t image_len,
+    uint32_t format, uint32_t flags, uint32_t limit,
+    const uint8_t *text, size_t text_len,
+    const uint8_t *init, size_t init_len);
+
+/*
+ * Have so many bytes room at an address? 1 if all of them are within one range of guest memory, or if there are none;
+ * else 0. It is not checked that the map is valid: the first REKUSOYEN_MAP_RANGES ranges of any list count as they are.
+ */
+uint32_t rekusoyen_has_room(
+    uint64_t memory_size,
+    const uint64_t *map, size_t map_len,
+    uint64_t address, uint64_t size);
+
+/*
+ * Writes bytes, such as a ramdisk or a device tree, into guest memory.
+ *
+ *   guest    guest memory, its first byte at guest address 0
+ *   map      its ranges
+ *   address  where the bytes begin
+ *   bytes    the bytes; none are accepted at every address
+ *
+ * Refusals:
+ *   SLICE_TOO_LONG  guest_len is above REKUSOYEN_LONGEST_SLICE
+ *   BAD_MAP         the map is not valid
+ *   NO_ROOM         the bytes have no room at the address
+ *
+ * Leaves, accepted: in guest the bytes from the address on. Leaves, refused: guest as it was.
+ */
+uint32_t rekusoyen_put(
+    uint8_t *guest, size_t guest_len,
+    const uint64_t *map, size_t map_len,
+    uint64_t address,
+    const uint8_t *bytes, size_t bytes_len);
+
+/*
+ * Where to put a piece: the lowest address, or of rekusoyen_place_high the highest, at which it fits. It fits at a
+ * multiple of align from low on if it ends at high at the latest, has room, and shares no byte with a range that is
+ * placed already. With more memory the lowest address may be lower, and the highest higher.
+ *
+ *   memory_size  how many bytes guest memory has
+ *   map          its ranges. It is not checked that the map is valid, as of rekusoyen_has_room
+ *   placed       ranges, start and size in turn, of any number and in any order; a single number at the end is not
+ *                looked at
+ *   low, high    the first address of the bounds, and the one after the last
+ *   align        0 counts as 1
+ *   size         of the piece. One of no bytes needs no room and shares no byte
+ *   address      the result
+ *
+ * Refusals:
+ *   NO_ROOM  it fits nowhere
+ *
+ * Leaves, accepted: in address the result. Leaves, refused: address as it was.
+ */
+uint32_t rekusoyen_raw_place(
+    uint64_t memory_size, const uint64_t *map, size_t map_len, const uint64_t *placed, size_t placed_len, uint64_t low,
+    uint64_t high, uint64_t align, uint64_t size, uint64_t *address, size_t address_len);
+static inline uint32_t rekusoyen_place(
+    uint64_t memory_size,
+    const uint64_t *map, size_t map_len,
+    const uint64_t *placed, size_t placed_len,
+    uint64_t low, uint64_t high, uint64_t align, uint64_t size,
+    uint64_t *address)
+{
+    return rekusoyen_raw_place(
+        memory_size, map, map_len, placed, placed_len, low, high, align, size, address, 1);
+}
+uint32_t rekusoyen_raw_place_high(
+    uint64_t memory_size, const uint64_t *map, size_t map_len, const uint64_t *placed, size_t placed_len, uint64_t low,
+    uint64_t high, uint64_t align, uint64_t size, uint64_t *address, size_t address_len);
+static inline uint32_t rekusoyen_place_high(
+    uint64_t memory_size,
+    const uint64_t *map, size_t map_len,
+    const uint64_t *placed, size_t placed_len,
+    uint64_t low, uint64_t high, uint64_t align, uint64_t size,
+    uint64_t *address)
+{
+    return rekusoyen_raw_place_high(
+        memory_size, map, map_len, placed, placed_len, low, high, align, size, address, 1);
 }
 
 /* ---- a job of the desk program */

@@ -51,10 +51,10 @@ void check_answer(const char *what, uint32_t got, uint32_t expected, const char 
 void check_all_reached(void)
 {
     /* a bad job is refused by the desk program, and by no function of the library */
-    for (size_t i = 0; i < ANSWERS; i++)
-        CHECK(
-            answers[i].reached != (answers[i].number == REKUSOYEN_BAD_JOB), "%s was never answered, or should not be",
-            answers[i].name);
+    for (size_t i = 0; i < ANSWERS; i++) {
+        const int is_never = answers[i].number == REKUSOYEN_BAD_JOB;
+        CHECK(answers[i].reached != is_never, "%s was never answered, or should not be", answers[i].name);
+    }
 }
 
 int report(void)

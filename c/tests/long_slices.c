@@ -186,6 +186,38 @@ static void check_guests(struct mapping *mapping)
     load_line_into(mapping, LONGEST + 1, &no_line, REKUSOYEN_INVALID_CAPACITY);
 }
 
+/* A whole boot of a long image or into long guest memory; and bytes that are put at its end. */
+static void check_boots(struct mapping *mapping)
+{
+    static const uint64_t longest[] = {0, LONGEST}, small[] = {0, GUEST};
+    for (uint32_t entry = REKUSOYEN_ENTRY_ZERO_PAGE; entry <= REKUSOYEN_ENTRY_TREE; entry++)
+        for (EACH_FORMAT(number)) {
+            const struct format format = format_of(number);
+            struct lent list = lend_list(REKUSOYEN_BOOTED_NUMBERS), guest = lend_filled(GUEST);
+            struct rekusoyen_booted *const booted = (void *)list.bytes;
+            struct rekusoyen_boot boot = {
+                .image = format.image.bytes, .image_len = format.image.size, .format = number, .entry = entry};
+            const uint32_t expected = REKUSOYEN_SLICE_TOO_LONG;
+            CHECK_ANSWER("guest", rekusoyen_boot(mapping->bytes, LONGEST + 1, longest, 2, &boot, booted), expected);
+            CHECK_ANSWER("memory", rekusoyen_boot_plan(LONGEST + 1, longest, 2, &boot, booted), expected);
+            boot.image = mapping->bytes;
+            boot.image_len = LONGEST + 1;
+            CHECK_ANSWER("image", rekusoyen_boot(guest.bytes, GUEST, small, 2, &boot, booted), expected);
+            CHECK_ANSWER("image", rekusoyen_boot_plan(GUEST, small, 2, &boot, booted), expected);
+            CHECK_KEPT("refused", &list);
+            CHECK_KEPT("refused", &guest);
+            check_edges("a boot", mapping);
+        }
+    CHECK_ANSWER(
+        "put", rekusoyen_put(mapping->bytes, LONGEST + 1, longest, 2, 0, (const uint8_t *)"end", 3),
+        REKUSOYEN_SLICE_TOO_LONG);
+    check_edges("put", mapping);
+    CHECK_ANSWER(
+        "put", rekusoyen_put(mapping->bytes, LONGEST, longest, 2, LONGEST - 3, (const uint8_t *)"end", 3),
+        REKUSOYEN_ACCEPTED);
+    check_last("put", mapping, "end", 3);
+}
+
 /* A map that is not valid is refused after an unknown format and a long slice, and before the image or the line. */
 static void check_order(const struct mapping *mapping)
 {
@@ -226,6 +258,7 @@ void test_long_slices(void)
         return;
     check_images(&mapping);
     check_guests(&mapping);
+    check_boots(&mapping);
     check_order(&mapping);
     CHECK(munmap(mapping.bytes, MAPPED) == 0, "the mapping is given back");
 }

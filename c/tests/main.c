@@ -28,6 +28,8 @@ int main(int count, char **words)
     test_plans();
     test_line_words();
     test_jobs();
+    test_boots();
+    test_layout();
     test_long_slices();
     test_empty_slices();
     check_all_reached();

@@ -2,6 +2,7 @@
  * How much stack a call uses. It runs on a thread of the smallest stack that the system allows (16 KiB, where it allows
  * that), which is filled before; what is no longer as filled was used.
  */
+#include "boot_calls.h"
 #include "loads.h"
 #include "tests.h"
 
@@ -243,6 +244,21 @@ static const struct {
     {"rekusoyen_line_load", line_load, REKUSOYEN_LINE_STACK_SIZE, 0},
     {"rekusoyen_line_plan", line_plan, REKUSOYEN_LINE_STACK_SIZE, 0},
     {"rekusoyen_line_words", line_words, REKUSOYEN_LINE_STACK_SIZE, 0},
+    {"rekusoyen_boot, 32-bit", boot_by_page_32, REKUSOYEN_BOOT_STACK_SIZE, 0},
+    {"rekusoyen_boot, 64-bit", boot_by_page_64, REKUSOYEN_BOOT_STACK_SIZE, 0},
+    {"rekusoyen_boot, 64-bit ELF", boot_by_page_64_elf, REKUSOYEN_BOOT_STACK_SIZE, 0},
+    {"rekusoyen_boot, PVH", boot_by_pvh, REKUSOYEN_BOOT_STACK_SIZE, 0},
+    {"rekusoyen_boot, tree", boot_by_tree, REKUSOYEN_BOOT_STACK_SIZE, 0},
+    {"rekusoyen_boot_plan, 32-bit", plan_by_page_32, REKUSOYEN_BOOT_STACK_SIZE, 0},
+    {"rekusoyen_boot_plan, 64-bit", plan_by_page_64, REKUSOYEN_BOOT_STACK_SIZE, 0},
+    {"rekusoyen_boot_plan, 64-bit ELF", plan_by_page_64_elf, REKUSOYEN_BOOT_STACK_SIZE, 0},
+    {"rekusoyen_boot_plan, PVH", plan_by_pvh, REKUSOYEN_BOOT_STACK_SIZE, 0},
+    {"rekusoyen_boot_plan, tree", plan_by_tree, REKUSOYEN_BOOT_STACK_SIZE, 0},
+    {"rekusoyen_line_check", check_a_line, REKUSOYEN_BOOT_STACK_SIZE, 0},
+    {"rekusoyen_has_room", find_room, REKUSOYEN_BOOT_STACK_SIZE, 0},
+    {"rekusoyen_put", put_bytes, REKUSOYEN_BOOT_STACK_SIZE, 0},
+    {"rekusoyen_place", place_low, REKUSOYEN_BOOT_STACK_SIZE, 0},
+    {"rekusoyen_place_high", place_high, REKUSOYEN_BOOT_STACK_SIZE, 0},
     {"rekusoyen_job", do_job, REKUSOYEN_JOB_STACK_SIZE, 0}, /* the last: it needs a larger stack */
 };
 
@@ -316,6 +332,7 @@ void test_stack(void)
         rows[i] = i % 3 == 0 ? i : 1;
     const struct image image = small_elf();
     job = job_of(&image, "quiet");
+    prepare_boot_calls();
     measure_on(SMALL_STACK, 0, CALLS - 1);
     measure_on(2 * REKUSOYEN_JOB_STACK_SIZE, CALLS - 1, CALLS);
 }

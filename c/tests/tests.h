@@ -18,6 +18,8 @@ void test_steps(void);
 void test_plans(void);
 void test_line_words(void);
 void test_jobs(void);
+void test_boots(void);
+void test_layout(void);
 void test_long_slices(void);
 void test_empty_slices(void);
 void test_stack(void);

@@ -313,6 +313,12 @@ impl Cmdline {
         result_of(number, "").map(|()| Cmdline { bytes })
     }
 
+    /// The boot text and the init text.
+    pub(crate) fn texts(&self) -> (&[u8], &[u8]) {
+        let text = |at: usize, length: usize| &self.bytes[at..at + length];
+        (text(24, self.number(0)), text(24 + LIMIT, self.number(1)))
+    }
+
     /// The bytes that hold the line.
     pub(crate) fn bytes(&self) -> &[u8] {
         &*self.bytes

@@ -48,6 +48,12 @@ pub const OFFSET_GIVEN: u32 = 1;
 /// The flag of a load to which the start of high memory is given.
 pub const HIGHMEM_GIVEN: u32 = 2;
 
+/// The flag of a boot to which a limit of the line is given.
+pub const LIMIT_GIVEN: u32 = 4;
+
+/// The flag of a boot by zero page in 64-bit mode.
+pub const ENTRY_64_BIT: u32 = 8;
+
 /// PVH: there is no note header, an offset was given, or the image is no ELF image.
 pub const PVH_IGNORED: u64 = 0;
 
@@ -65,6 +71,9 @@ pub const PLAN_NUMBERS: usize = KERNEL_NUMBERS + 1;
 
 /// How many numbers a part of a load has.
 pub const PART_NUMBERS: usize = 3;
+
+/// How many numbers an accepted boot returns.
+pub const BOOTED_NUMBERS: usize = KERNEL_NUMBERS + 1;
 
 /// How many numbers hold the state of a load in steps.
 pub const STATE_NUMBERS: usize = 50;
@@ -390,6 +399,230 @@ crate::assembly::entry_points! {
         numbers: *mut u64,
         numbers_len: usize,
     );
+
+    /// Puts all pieces of a boot by zero page into guest memory. `rows` has three numbers for each row. `booted` has
+    /// [`BOOTED_NUMBERS`] numbers: those of a load, then the address at which the kernel is entered.
+    pub fn rekusoyen_raw_boot_zero_page(
+        guest: *mut u8,
+        guest_len: usize,
+        map: *const u64,
+        map_len: usize,
+        image: *const u8,
+        image_len: usize,
+        format: u32,
+        flags: u32,
+        offset: u64,
+        highmem: u64,
+        limit: u32,
+        text: *const u8,
+        text_len: usize,
+        init: *const u8,
+        init_len: usize,
+        ramdisk: *const u8,
+        ramdisk_len: usize,
+        rows: *const u64,
+        rows_len: usize,
+        line: u32,
+        ramdisk_at: u32,
+        page: u32,
+        booted: *mut u64,
+        booted_len: usize,
+    ) -> u32;
+
+    /// The same by PVH. `rows` has four numbers for each row.
+    pub fn rekusoyen_raw_boot_pvh(
+        guest: *mut u8,
+        guest_len: usize,
+        map: *const u64,
+        map_len: usize,
+        image: *const u8,
+        image_len: usize,
+        format: u32,
+        flags: u32,
+        offset: u64,
+        highmem: u64,
+        limit: u32,
+        text: *const u8,
+        text_len: usize,
+        init: *const u8,
+        init_len: usize,
+        ramdisk: *const u8,
+        ramdisk_len: usize,
+        rows: *const u64,
+        rows_len: usize,
+        line: u64,
+        ramdisk_at: u64,
+        block: u32,
+        rsdp: u64,
+        booted: *mut u64,
+        booted_len: usize,
+    ) -> u32;
+
+    /// The same with a device tree, which holds the text and a zero at an offset.
+    pub fn rekusoyen_raw_boot_tree(
+        guest: *mut u8,
+        guest_len: usize,
+        map: *const u64,
+        map_len: usize,
+        image: *const u8,
+        image_len: usize,
+        format: u32,
+        flags: u32,
+        offset: u64,
+        highmem: u64,
+        limit: u32,
+        text: *const u8,
+        text_len: usize,
+        ramdisk: *const u8,
+        ramdisk_len: usize,
+        tree: *const u8,
+        tree_len: usize,
+        line_offset: u64,
+        ramdisk_at: u64,
+        tree_at: u64,
+        booted: *mut u64,
+        booted_len: usize,
+    ) -> u32;
+
+    /// What [`rekusoyen_raw_boot_zero_page`] would answer over guest memory of this size with this map.
+    pub fn rekusoyen_raw_boot_zero_page_plan(
+        memory_size: u64,
+        map: *const u64,
+        map_len: usize,
+        image: *const u8,
+        image_len: usize,
+        format: u32,
+        flags: u32,
+        offset: u64,
+        highmem: u64,
+        limit: u32,
+        text: *const u8,
+        text_len: usize,
+        init: *const u8,
+        init_len: usize,
+        ramdisk_len: u64,
+        rows: *const u64,
+        rows_len: usize,
+        line: u32,
+        ramdisk_at: u32,
+        page: u32,
+        booted: *mut u64,
+        booted_len: usize,
+    ) -> u32;
+
+    /// What [`rekusoyen_raw_boot_pvh`] would answer over guest memory of this size with this map.
+    pub fn rekusoyen_raw_boot_pvh_plan(
+        memory_size: u64,
+        map: *const u64,
+        map_len: usize,
+        image: *const u8,
+        image_len: usize,
+        format: u32,
+        flags: u32,
+        offset: u64,
+        highmem: u64,
+        limit: u32,
+        text: *const u8,
+        text_len: usize,
+        init: *const u8,
+        init_len: usize,
+        ramdisk_len: u64,
+        rows: *const u64,
+        rows_len: usize,
+        line: u64,
+        ramdisk_at: u64,
+        block: u32,
+        rsdp: u64,
+        booted: *mut u64,
+        booted_len: usize,
+    ) -> u32;
+
+    /// What [`rekusoyen_raw_boot_tree`] would answer over guest memory of this size with this map.
+    pub fn rekusoyen_raw_boot_tree_plan(
+        memory_size: u64,
+        map: *const u64,
+        map_len: usize,
+        image: *const u8,
+        image_len: usize,
+        format: u32,
+        flags: u32,
+        offset: u64,
+        highmem: u64,
+        limit: u32,
+        text: *const u8,
+        text_len: usize,
+        ramdisk_len: u64,
+        tree: *const u8,
+        tree_len: usize,
+        line_offset: u64,
+        ramdisk_at: u64,
+        tree_at: u64,
+        booted: *mut u64,
+        booted_len: usize,
+    ) -> u32;
+
+    /// Checks that a line is no longer than the kernel takes.
+    pub fn rekusoyen_line_check(
+        image: *const u8,
+        image_len: usize,
+        format: u32,
+        flags: u32,
+        limit: u32,
+        text: *const u8,
+        text_len: usize,
+        init: *const u8,
+        init_len: usize,
+    ) -> u32;
+
+    /// 1 if so many bytes have room at an address, or if there are none; else 0.
+    pub fn rekusoyen_has_room(
+        memory_size: u64,
+        map: *const u64,
+        map_len: usize,
+        address: u64,
+        size: u64,
+    ) -> u32;
+
+    /// Writes bytes into guest memory.
+    pub fn rekusoyen_put(
+        guest: *mut u8,
+        guest_len: usize,
+        map: *const u64,
+        map_len: usize,
+        address: u64,
+        bytes: *const u8,
+        bytes_len: usize,
+    ) -> u32;
+
+    /// The lowest address at which a piece fits; `address` has one number.
+    pub fn rekusoyen_raw_place(
+        memory_size: u64,
+        map: *const u64,
+        map_len: usize,
+        placed: *const u64,
+        placed_len: usize,
+        low: u64,
+        high: u64,
+        align: u64,
+        size: u64,
+        address: *mut u64,
+        address_len: usize,
+    ) -> u32;
+
+    /// The highest address at which it fits.
+    pub fn rekusoyen_raw_place_high(
+        memory_size: u64,
+        map: *const u64,
+        map_len: usize,
+        placed: *const u64,
+        placed_len: usize,
+        low: u64,
+        high: u64,
+        align: u64,
+        size: u64,
+        address: *mut u64,
+        address_len: usize,
+    ) -> u32;
 
     /// Does a job of the desk program. `text` has [`JOB_TEXT_SIZE`] bytes: what that program prints, and zeros after it.
     pub fn rekusoyen_job(

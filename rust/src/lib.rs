@@ -32,6 +32,8 @@
 //! Guest memory may have holes: a [`Map`] names the ranges in which there is memory, and `load_into_map` of each loader and
 //! [`load_cmdline_into_map`](loader::load_cmdline_into_map) take one. Without a map the slice has no hole.
 //! [`boot_page`] builds and reads the zero page of a bzImage, [`start_info`] writes, checks and reads the PVH start block.
+//! [`boot`] puts kernel, line, ramdisk and boot data into guest memory by one call, and checks first that no two of them
+//! share a byte.
 //!
 //! With the feature `vm-memory`, `loader` has the trait `KernelLoader` and the function `load_cmdline` of linux-loader, with its
 //! signatures: a monitor writes `use rekusoyen::..` for `use linux_loader::..`. Guest memory is then all its regions, and of an image
@@ -48,6 +50,7 @@
 
 mod address;
 mod assembly;
+pub mod boot;
 pub mod boot_page;
 pub mod cmdline;
 #[cfg(feature = "vm-memory")]

@@ -141,6 +141,42 @@ refusals! {
     NoRoomForImage = 87,
     /// The end of the arm64 Image does not fit into 64 bits.
     ImageEndWraps = 88,
+    /// The line is longer than the kernel takes.
+    LineTooLong = 91,
+    /// An image of this format is not entered in this way.
+    WrongEntry = 92,
+    /// The bzImage has no 64-bit entry.
+    No64BitEntry = 93,
+    /// The image has no PVH entry, and the boot is a PVH boot.
+    NoPvhEntry = 94,
+    /// The device tree does not hold the line and its zero at the offset that was given.
+    LineNotInTree = 95,
+    /// The kernel's memory is not in one range of guest memory.
+    KernelOutside = 96,
+    /// The ramdisk is not in one range of guest memory.
+    RamdiskOutside = 97,
+    /// The boot page or the device tree is not in one range of guest memory.
+    BootDataOutside = 98,
+    /// The ramdisk ends above the highest address that the kernel takes.
+    RamdiskTooHigh = 99,
+    /// The kernel's memory and the line share a byte.
+    KernelMeetsLine = 100,
+    /// The kernel's memory and the ramdisk share a byte.
+    KernelMeetsRamdisk = 101,
+    /// The kernel's memory shares a byte with the boot page, the start block or the device tree.
+    KernelMeetsBootData = 102,
+    /// The line and the ramdisk share a byte.
+    LineMeetsRamdisk = 103,
+    /// The line shares a byte with the boot page, the start block or the device tree.
+    LineMeetsBootData = 104,
+    /// The ramdisk shares a byte with the boot page, the start block or the device tree.
+    RamdiskMeetsBootData = 105,
+    /// The kernel's memory is not all in rows of type 1 of the guest's memory map.
+    KernelNotInRows = 106,
+    /// The line is not all in rows of type 1 of the guest's memory map.
+    LineNotInRows = 107,
+    /// The ramdisk is not all in rows of type 1 of the guest's memory map.
+    RamdiskNotInRows = 108,
 }
 
 impl Refusal {

@@ -43,11 +43,13 @@ fn answers_of_the_header_are_those_of_the_catalogue() {
     assert_eq!(rows, wanted);
 }
 
-/// InvalidElfMagicNumber becomes INVALID_ELF_MAGIC_NUMBER.
+/// InvalidElfMagicNumber becomes INVALID_ELF_MAGIC_NUMBER, and No64BitEntry NO_64_BIT_ENTRY.
 fn in_capitals(name: &str) -> String {
     let mut capitals = String::new();
     for letter in name.chars() {
-        if letter.is_uppercase() && !capitals.is_empty() {
+        let in_number = capitals.ends_with(|c: char| c.is_ascii_digit());
+        let is_first = letter.is_uppercase() || (letter.is_ascii_digit() && !in_number);
+        if is_first && !capitals.is_empty() {
             capitals.push('_');
         }
         capitals.extend(letter.to_uppercase());
@@ -96,6 +98,7 @@ fn sizes_flags_and_codes_are_those_of_the_header() {
         ("KERNEL_NUMBERS", entry::KERNEL_NUMBERS),
         ("PLAN_NUMBERS", entry::PLAN_NUMBERS),
         ("PART_NUMBERS", entry::PART_NUMBERS),
+        ("BOOTED_NUMBERS", entry::BOOTED_NUMBERS),
         ("STATE_NUMBERS", entry::STATE_NUMBERS),
         ("STEP_NUMBERS", entry::STEP_NUMBERS),
         ("NOTE_NUMBERS", entry::NOTE_NUMBERS),
@@ -116,6 +119,8 @@ fn sizes_flags_and_codes_are_those_of_the_header() {
         ("ARM64", entry::ARM64.into()),
         ("OFFSET_GIVEN", entry::OFFSET_GIVEN.into()),
         ("HIGHMEM_GIVEN", entry::HIGHMEM_GIVEN.into()),
+        ("LIMIT_GIVEN", entry::LIMIT_GIVEN.into()),
+        ("ENTRY_64_BIT", entry::ENTRY_64_BIT.into()),
         ("PVH_IGNORED", entry::PVH_IGNORED),
         ("PVH_NOT_PRESENT", entry::PVH_NOT_PRESENT),
         ("PVH_PRESENT", entry::PVH_PRESENT),

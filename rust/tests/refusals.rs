@@ -3,6 +3,7 @@
 mod images;
 
 use images::{arm64_image, fresh, note, note_header, BzImageFile, ElfImage, LOADABLE, NOTE};
+use rekusoyen::boot::{self, Boot, Pvh, Tree, ZeroPage};
 use rekusoyen::boot_page;
 use rekusoyen::cmdline::{self, Cmdline};
 use rekusoyen::loader::bootparam::boot_e820_entry;
@@ -16,9 +17,9 @@ use rekusoyen::words::words;
 use rekusoyen::{GuestAddress, Map, Refusal};
 use vm_memory::MmapRegion;
 
-/// The safe functions lend outputs of the right size and as many places as a line can have words, so that nobody can be refused for them; and no
+/// The safe functions lend as many places as a line can have words, so that nobody can be refused for them; and no
 /// function of the library does a job of the desk program.
-const NEVER: [Refusal; 3] = [Refusal::NoRoom, Refusal::TooFewPlaces, Refusal::BadJob];
+const NEVER: [Refusal; 2] = [Refusal::TooFewPlaces, Refusal::BadJob];
 
 #[test]
 fn every_refusal_is_reached_and_has_its_number() {
@@ -34,6 +35,7 @@ fn every_refusal_is_reached_and_has_its_number() {
         of_starts(),
         of_long(),
         of_words(),
+        of_boots(),
     ]
     .concat();
     for (refusal, number) in &reached {
@@ -44,6 +46,100 @@ fn every_refusal_is_reached_and_has_its_number() {
         let is_left_out = NEVER.contains(refusal);
         assert_eq!(is_reached, !is_left_out, "{refusal:?}");
     }
+}
+
+/// A bzImage for address 0x4000, which takes a line of 4 bytes and 0x100 bytes of memory, with these bytes at a place.
+fn bzimage_with(place: usize, bytes: &[u8]) -> Vec<u8> {
+    let mut image = BzImageFile::loaded_at(0x4000, b"kernel").bytes();
+    image[0x22c..0x230].copy_from_slice(&0x7fff_u32.to_le_bytes());
+    image[0x238] = 4;
+    image[0x261] = 1;
+    image[0x258..0x260].copy_from_slice(&0x4000_u64.to_le_bytes());
+    image[place..place + bytes.len()].copy_from_slice(bytes);
+    image
+}
+
+fn of_boots() -> Reached {
+    let boot = |image: &[u8], [line, ramdisk, page]: [u64; 3], is_64_bit, text: &[u8], row| {
+        let [line, ramdisk, page] = [line, ramdisk, page].map(|at| Some(GuestAddress(at)));
+        let entry = ZeroPage {
+            is_64_bit,
+            page,
+            line,
+            ramdisk,
+        };
+        let boot = Boot::new(image).text(text).ramdisk(b"disk").rows(&[row]);
+        let error = boot.zero_page(entry).plan(&Map::whole(0x6000));
+        error.expect_err("it is refused").number()
+    };
+    let all = (GuestAddress(0), 0x6000, 1);
+    let image = bzimage_with(0x206, &[0x0f]);
+    let at = |line, ramdisk, page| boot(&image, [line, ramdisk, page], false, b"line", all);
+    let in_row = |start, size| {
+        let row = (GuestAddress(start), size, 1);
+        boot(&image, [0x100, 0x200, 0x1000], false, b"line", row)
+    };
+    let good = [0x100, 0x200, 0x1000];
+    let large = bzimage_with(0x262, &[1]);
+    let arm64 = arm64_image(0x4000, 0x100, b"");
+    let tree = Boot::new(&arm64).tree(Tree::default());
+    vec![
+        (
+            Refusal::LineTooLong,
+            boot(&image, good, false, b"longer", all),
+        ),
+        (Refusal::WrongEntry, boot(&arm64, good, false, b"", all)),
+        (
+            Refusal::No64BitEntry,
+            boot(&image, good, true, b"line", all),
+        ),
+        (
+            Refusal::NoPvhEntry,
+            Boot::new(&image)
+                .rows(&[all])
+                .pvh(Pvh::default())
+                .plan(&Map::whole(0x6000))
+                .err()
+                .and_then(|error| error.number()),
+        ),
+        (
+            Refusal::LineNotInTree,
+            tree.plan(&Map::whole(0x6000))
+                .err()
+                .and_then(|error| error.number()),
+        ),
+        (
+            Refusal::KernelOutside,
+            boot(&large, good, false, b"line", all),
+        ),
+        (Refusal::RamdiskOutside, at(0x100, 0x5ffd, 0x1000)),
+        (Refusal::BootDataOutside, at(0x100, 0x200, 0x5001)),
+        (Refusal::RamdiskTooHigh, at(0x100, 0x7ffd, 0x1000)),
+        (Refusal::KernelMeetsLine, at(0x40ff, 0x200, 0x1000)),
+        (Refusal::KernelMeetsRamdisk, at(0x100, 0x40ff, 0x1000)),
+        (Refusal::KernelMeetsBootData, at(0x100, 0x200, 0x3001)),
+        (Refusal::LineMeetsRamdisk, at(0x100, 0x104, 0x1000)),
+        (Refusal::LineMeetsBootData, at(0x1fff, 0x200, 0x1000)),
+        (Refusal::RamdiskMeetsBootData, at(0x100, 0xffd, 0x1000)),
+        (Refusal::KernelNotInRows, in_row(0, 0x40ff)),
+        (Refusal::LineNotInRows, in_row(0x101, 0x5000)),
+        (
+            Refusal::RamdiskNotInRows,
+            boot(
+                &image,
+                [0x300, 0x200, 0x1000],
+                false,
+                b"line",
+                (GuestAddress(0x300), 0x5000, 1),
+            ),
+        ),
+        (
+            Refusal::NoRoom,
+            boot::put(&mut [], &Map::default(), GuestAddress(0), b"x")
+                .err()
+                .map(Refusal::number),
+        ),
+    ]
 }
 
 fn of_starts() -> Reached {

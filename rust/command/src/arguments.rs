@@ -5,11 +5,13 @@ use std::ffi::OsString;
 use lexopt::prelude::*;
 use rekusoyen::GuestAddress;
 
+use crate::boot::arguments::{self as boot, Boot};
 use crate::sizes;
 
 pub const HELP: &str = "\
 usage: rekusoyen                         load a small built-in image
        rekusoyen load [OPTIONS] < IMAGE  load an image from standard input
+       rekusoyen boot [OPTIONS] < IMAGE  show a whole boot: boot --help
        rekusoyen words < LINE            show the words of a command line
 
 Loads a kernel into guest memory, as a monitor would before it starts it, and
@@ -40,6 +42,8 @@ pub enum Request {
     BuiltIn,
     Words,
     Load(Load),
+    Boot(Boot),
+    BootHelp,
 }
 
 /// Which loader takes the image.
@@ -108,6 +112,10 @@ impl Typed {
 
 /// Reads the words after the command's name, which is needed to show a line to type.
 pub fn read(name: &str, words: Vec<OsString>) -> Result<Request, lexopt::Error> {
+    if words.first().is_some_and(|word| word == "boot") {
+        let boot = boot::read(name, &words[1..])?;
+        return Ok(boot.map_or(Request::BootHelp, Request::Boot));
+    }
     let mut parser = lexopt::Parser::from_args(words);
     let parser = &mut parser;
     let mut load = Load::default();
@@ -160,7 +168,7 @@ pub fn read(name: &str, words: Vec<OsString>) -> Result<Request, lexopt::Error> 
     }
 }
 
-fn format(text: &str) -> Result<Format, lexopt::Error> {
+pub fn format(text: &str) -> Result<Format, lexopt::Error> {
     match text {
         "elf" => Ok(Format::Elf),
         "bzimage" => Ok(Format::BzImage),
@@ -219,6 +227,8 @@ mod tests {
         assert_eq!(read_words("--help load").unwrap(), Request::Help);
         assert_eq!(read_words("-V").unwrap(), Request::Version);
         assert_eq!(read_words("words").unwrap(), Request::Words);
+        assert_eq!(read_words("boot").unwrap(), Request::Boot(Boot::default()));
+        assert_eq!(read_words("boot --help").unwrap(), Request::BootHelp);
     }
 
     #[test]

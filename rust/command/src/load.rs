@@ -1,5 +1,6 @@
 //! A load as the command does it: the image, then the line.
 
+use rekusoyen::boot::line_check;
 use rekusoyen::cmdline::Cmdline;
 use rekusoyen::loader::arm64::Image;
 use rekusoyen::loader::elf::PvhNote;
@@ -32,6 +33,8 @@ pub struct PutLine {
     pub at: GuestAddress,
     /// Its bytes, the zero counted.
     pub size: u64,
+    /// Whether it has more than the kernel takes.
+    pub is_too_long: bool,
 }
 
 /// What was refused.
@@ -91,8 +94,14 @@ pub fn load(
         None => None,
         Some(text) => {
             let at = asked.at.unwrap_or(GuestAddress(kernel.kernel_end));
-            let size = put_line(guest, at, text).map_err(refused(Some(at)))?;
-            Some(PutLine { at, size })
+            let line = put_line(guest, at, text).map_err(refused(Some(at)))?;
+            Some(PutLine {
+                at,
+                size: line
+                    .as_cstring()
+                    .map_or(0, |text| text.as_bytes_with_nul().len() as u64),
+                is_too_long: line_check(image_format(format), image, None, &line).is_err(),
+            })
         }
     };
     Ok(Loaded {
@@ -125,12 +134,20 @@ pub fn base_of(asked: &Load) -> GuestAddress {
     asked.base.unwrap_or(GuestAddress(0))
 }
 
-/// Puts a line into guest memory; how many bytes it takes, its zero counted.
-fn put_line(guest: &mut [u8], at: GuestAddress, text: &str) -> Result<u64, Refusal> {
+/// Puts a line into guest memory.
+fn put_line(guest: &mut [u8], at: GuestAddress, text: &str) -> Result<Cmdline, Refusal> {
     let line = Cmdline::try_from(text, CAPACITY).map_err(|error| error.refusal())?;
     load_cmdline_into(guest, at, &line).map_err(refusal_of)?;
-    let written = line.as_cstring().map_err(|error| error.refusal())?;
-    Ok(written.as_bytes_with_nul().len() as u64)
+    Ok(line)
+}
+
+/// The format of an image that is loaded.
+pub fn image_format(format: Format) -> loader::Format {
+    match format {
+        Format::BzImage => loader::Format::BzImage,
+        Format::Arm64 => loader::Format::Arm64,
+        _ => loader::Format::Elf,
+    }
 }
 
 fn refusal_of(error: loader::Error) -> Refusal {

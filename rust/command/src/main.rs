@@ -1,6 +1,7 @@
 //! Shows in one command what a kernel image would do to guest memory.
 
 mod arguments;
+mod boot;
 mod built_in;
 mod explain;
 mod input;
@@ -35,6 +36,10 @@ fn main() -> ExitCode {
         Ok(Request::BuiltIn) => Ok(built_in()),
         Ok(Request::Words) => words_of_input(&name),
         Ok(Request::Load(asked)) => from_input(&name, &asked),
+        Ok(Request::Boot(asked)) => {
+            image_of_input(&name, "boot").and_then(|image| boot::boot(&image, &asked))
+        }
+        Ok(Request::BootHelp) => Ok(Answer::of(boot::arguments::HELP.to_string())),
         Err(error) => Err(Failure::Usage(error.to_string())),
     };
     match answer {
@@ -111,15 +116,20 @@ fn words_of_input(name: &str) -> Result<Answer, Failure> {
     }
 }
 
-/// Loads the image that standard input has.
-fn from_input(name: &str, asked: &Load) -> Result<Answer, Failure> {
+/// The image that standard input has, for a command.
+fn image_of_input(name: &str, command: &str) -> Result<Vec<u8>, Failure> {
     if io::stdin().is_terminal() {
         return Err(Failure::Usage(format!(
-            "the image comes by standard input: {name} load < IMAGE"
+            "the image comes by standard input: {name} {command} < IMAGE"
         )));
     }
-    let image = input::image(io::stdin().lock(), input::LONGEST)
-        .map_err(|error| Failure::Usage(format!("standard input cannot be read: {error}")))?;
+    input::image(io::stdin().lock(), input::LONGEST)
+        .map_err(|error| Failure::Usage(format!("standard input cannot be read: {error}")))
+}
+
+/// Loads the image that standard input has.
+fn from_input(name: &str, asked: &Load) -> Result<Answer, Failure> {
+    let image = image_of_input(name, "load")?;
     let mut guest = input::Guest::new(asked.guest).ok_or_else(|| {
         Failure::Usage(format!(
             "the system gives no {} bytes for guest memory",

@@ -40,12 +40,27 @@ pub fn remarks(loaded: &Loaded, image: &[u8], asked: &Load) -> Vec<String> {
     remarks.extend(unused(loaded.format, asked));
     if let Some(line) = &loaded.line {
         remarks.extend(overwritten(loaded, image, asked, line));
+        if line.is_too_long {
+            let (has, takes) = (line.size - 1, line_limit(loaded.format, image));
+            remarks.push(format!(
+                "the command line has {has} bytes, and the kernel takes {takes}: a boot is refused"
+            ));
+        }
     }
     remarks
 }
 
+/// How long a command line the kernel takes, its zero not counted: of ELF and arm64 what Linux takes.
+fn line_limit(format: Format, image: &[u8]) -> u64 {
+    match format {
+        Format::BzImage if number(image, 0x206, 2) < 0x206 => 255,
+        Format::BzImage => number(image, 0x238, 4),
+        _ => 2047,
+    }
+}
+
 /// Options that are given and have no say in a load of this format.
-fn unused(format: Format, asked: &Load) -> Option<String> {
+pub fn unused(format: Format, asked: &Load) -> Option<String> {
     let options = [
         ("--offset", asked.offset.is_some(), format != Format::Arm64),
         (

@@ -21,6 +21,19 @@ pub fn number(text: &str) -> Option<u64> {
     }
 }
 
+/// A size as people read it: in T, G, M or K if it is a multiple of one, else in bytes.
+pub fn shown(size: u64) -> String {
+    let suffix = SUFFIXES
+        .iter()
+        .rev()
+        .find(|(_, multiple)| size % multiple == 0);
+    match suffix {
+        Some((letter, multiple)) if size > 0 => format!("{}{letter}", size / multiple),
+        _ if size == 1 => "1 byte".to_string(),
+        _ => format!("{size} bytes"),
+    }
+}
+
 /// Digits alone: the standard library would take a sign as well.
 fn whole(digits: &str, base: u32) -> Option<u64> {
     if digits.starts_with('+') {
@@ -31,7 +44,24 @@ fn whole(digits: &str, base: u32) -> Option<u64> {
 
 #[cfg(test)]
 mod tests {
-    use super::number;
+    use super::{number, shown};
+
+    #[test]
+    fn sizes_are_shown_by_the_largest_that_divides_them() {
+        for (size, text) in [
+            (0, "0 bytes"),
+            (1, "1 byte"),
+            (1023, "1023 bytes"),
+            (1024, "1K"),
+            (1536, "1536 bytes"),
+            (3 << 20, "3M"),
+            ((1 << 30) + (1 << 10), "1048577K"),
+            (5 << 40, "5T"),
+            (u64::MAX, "18446744073709551615 bytes"),
+        ] {
+            assert_eq!(shown(size), text);
+        }
+    }
 
     #[test]
     fn numbers_are_understood() {

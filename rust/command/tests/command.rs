@@ -90,12 +90,12 @@ fn elf_with_notes() -> Vec<u8> {
     image
 }
 
-/// A bzImage: two sectors of setup, code32_start 16, and a kernel of 3 bytes.
+/// A bzImage: two sectors of setup, code32_start 16, a cmdline_size of 9, and a kernel of 3 bytes.
 fn bzimage() -> Vec<u8> {
     let mut image = vec![0; 1024];
     image[0x1f1] = 1;
     image[0x202..0x206].copy_from_slice(b"HdrS");
-    for (place, value) in [(0x206, 15), (0x207, 2), (0x211, 1), (0x214, 16)] {
+    for (place, value) in [(0x206, 15), (0x207, 2), (0x211, 1), (0x214, 16), (0x238, 9)] {
         image[place] = value;
     }
     image.extend(b"abc");
@@ -300,6 +300,283 @@ fn a_line_over_the_kernel_is_remarked_on() {
         "load 16\nend 19\ncmdline 18\n",
         "rekusoyen: the command line at 0x12 to 0x18 lies over the kernel at 0x10 to 0x13\n",
     );
+}
+
+#[test]
+fn a_line_longer_than_the_kernel_takes_is_remarked_on() {
+    let line = |length| {
+        [
+            "load".to_string(),
+            "--cmdline".to_string(),
+            "x".repeat(length),
+        ]
+    };
+    let run = |length, image: &[u8]| {
+        let words = line(length);
+        run(&words.each_ref().map(String::as_str), image)
+    };
+    let told = |has, takes| {
+        format!("rekusoyen: the command line has {has} bytes, and the kernel takes {takes}: a boot is refused\n")
+    };
+    let mut old = bzimage();
+    old[0x206] = 5;
+    for (image, takes, before) in [
+        (bzimage(), 9, ""),
+        (old, 255, ""),
+        (elf(), 2047, NO_NOTES),
+        (arm64(), 2047, ""),
+    ] {
+        assert_eq!(run(takes, &image).err, before);
+        let long = run(takes + 1, &image);
+        assert_eq!(long.err, format!("{before}{}", told(takes + 1, takes)));
+        assert_eq!(long.status, Some(0));
+    }
+}
+
+/// A bzImage that is booted: at 0x4000, where it takes 0x1000 bytes, with a 64-bit entry.
+fn bootable() -> Vec<u8> {
+    let mut image = bzimage();
+    for (place, bytes) in [
+        (0x214, &[0, 0x40][..]),      // code32_start
+        (0x22c, &[0xff, 0xff, 0xff]), // initrd_addr_max
+        (0x234, &[1]),                // relocatable_kernel
+        (0x236, &[1]),                // xloadflags
+        (0x238, &[0xff, 7]),          // cmdline_size
+        (0x260, &[0, 0x10]),          // init_size
+    ] {
+        image[place..place + bytes.len()].copy_from_slice(bytes);
+    }
+    image
+}
+
+/// A file for a run, which goes with the test.
+struct Written(std::path::PathBuf);
+
+impl Written {
+    fn new(name: &str, bytes: &[u8]) -> Written {
+        let name = format!("rekusoyen-{}-{name}", std::process::id());
+        let path = std::env::temp_dir().join(name);
+        std::fs::write(&path, bytes).expect("a file in the folder for such files");
+        Written(path)
+    }
+
+    fn name(&self) -> &str {
+        self.0.to_str().expect("its name is text")
+    }
+}
+
+impl Drop for Written {
+    fn drop(&mut self) {
+        let _ = std::fs::remove_file(&self.0);
+    }
+}
+
+#[test]
+fn a_boot_shows_its_layout() {
+    let disk = Written::new("disk", &[7; 100]);
+    accepted(
+        &[
+            "boot",
+            "--guest",
+            "64K",
+            "--cmdline",
+            "quiet",
+            "--ramdisk",
+            disk.name(),
+        ],
+        &bootable(),
+        "\
+entry 0x4000, by zero page in 32-bit mode
+
+0x10000 +-----------+
+        |           | 3996 bytes free
+ 0xf064 +-----------+
+        | ramdisk   | 100 bytes
+ 0xf000 +-----------+
+        |           | 40K free
+ 0x5000 +-----------+
+        | kernel    | 4K
+ 0x4000 +-----------+
+        |           | 8186 bytes free
+ 0x2006 +-----------+
+        | line      | 6 bytes
+ 0x2000 +-----------+
+        | zero page | 4K
+ 0x1000 +-----------+
+        |           | 4K free
+    0x0 +-----------+
+
+piece      from    to      bytes
+zero page  0x1000  0x2000  4096
+line       0x2000  0x2006  6
+kernel     0x4000  0x4003  3
+kernel     0x4000  0x5000  4096
+ramdisk    0xf000  0xf064  100
+",
+    );
+    // a hole, rows, a mode and addresses
+    accepted(
+        &[
+            "boot",
+            "--map",
+            "0:20K,0x6000:4K",
+            "--rows",
+            "0:20K:1",
+            "--entry",
+            "page64",
+            "--data-at",
+            "0x6000",
+            "--at",
+            "0x20",
+        ],
+        &bootable(),
+        "\
+entry 0x4200, by zero page in 64-bit mode
+
+0x7000 +-----------+
+       | zero page | 4K
+0x6000 +-----------+
+       : hole      : 4K
+0x5000 +-----------+
+       | kernel    | 4K
+0x4000 +-----------+
+       |           | 16351 bytes free
+  0x21 +-----------+
+       | line      | 1 byte
+  0x20 +-----------+
+       |           | 32 bytes free
+   0x0 +-----------+
+
+piece      from    to      bytes
+line       0x20    0x21    1
+kernel     0x4000  0x4003  3
+kernel     0x4000  0x5000  4096
+zero page  0x6000  0x7000  4096
+",
+    );
+}
+
+#[test]
+fn every_entry_is_shown() {
+    let pvh = elf_with(b"\x04\0\0\0\x04\0\0\0\x12\0\0\0Xen\0\0\0\x10\0");
+    let shown = run(&["boot", "--guest", "64K"], &pvh);
+    assert!(
+        shown.out.starts_with("entry 0x100000, by PVH\n"),
+        "{shown:?}"
+    );
+    assert!(shown
+        .out
+        .ends_with("start block  0x1000  0x1050  80\nline         0x1050  0x1051  1\n"));
+
+    let tree = Written::new("tree", b"a tree: quiet\0");
+    let words = [
+        "boot",
+        "--guest",
+        "8M",
+        "--base",
+        "4M",
+        "--cmdline",
+        "quiet",
+        "--tree",
+    ];
+    let shown = run(&[&words[..], &[tree.name()]].concat(), &arm64());
+    assert!(
+        shown
+            .out
+            .starts_with("entry 0x400010, with a device tree\n"),
+        "{shown:?}"
+    );
+    assert!(shown.out.ends_with(
+        "\
+piece        from      to        bytes
+device tree  0x1000    0x100e    14
+kernel       0x400010  0x4000d8  200
+"
+    ));
+}
+
+#[test]
+fn a_refused_boot_says_which_pieces_and_which_rule() {
+    let boot = |words: &[&'static str]| {
+        [&["boot", "--guest", "64K", "--cmdline", "quiet"], words].concat()
+    };
+    for (words, told) in [
+        (
+            &["--at", "0x4fff"][..],
+            "refused 100 KernelMeetsLine\n\
+             the kernel at 0x4000 to 0x5000 and the line at 0x4fff to 0x5005 share a byte\n\
+             try: another --at, or none: then it is placed\n",
+        ),
+        (
+            &["--at", "0x1000", "--data-at", "0x1005"],
+            "refused 104 LineMeetsBootData\n\
+             the line at 0x1000 to 0x1006 and the zero page at 0x1005 to 0x2005 share a byte\n\
+             try: another --data-at, or none: then it is placed\n",
+        ),
+        (
+            &["--at", "0x10000"],
+            "refused 32 CommandLineOverflow\n\
+             the line at 0x10000 to 0x10006 is not in one range of guest memory\n\
+             try: another --at, or none: then it is placed\n",
+        ),
+        (
+            &["--rows", "0:16K:1"],
+            "refused 106 KernelNotInRows\n\
+             the kernel at 0x4000 to 0x4003 and 0x4000 to 0x5000 is not in one of the rows of type 1 of the memory \
+             map that the guest is given\n\
+             try: --rows that have it with type 1\n",
+        ),
+        (
+            &["--entry", "pvh"],
+            "refused 94 NoPvhEntry\nthe image has no PVH entry, and the boot is a PVH boot\ntry: another --entry\n",
+        ),
+        (
+            &["--entry", "tree"],
+            "refused 92 WrongEntry\na bzImage is not entered with a device tree\ntry: another --entry\n",
+        ),
+        (
+            &["--offset", "0x10000"],
+            "refused 24 ReadBzImageCompressedKernel\n\
+             the kernel's 3 bytes go to guest 0x10000 to 0x10003, and guest memory ends at 0x10000\n\
+             try: --guest 0x10003 or more, or another --offset\n",
+        ),
+        (
+            &["--guest", "18K"],
+            "refused 96 KernelOutside\n\
+             the kernel at 0x4000 to 0x4003 and 0x4000 to 0x5000 is not in one range of guest memory\n\
+             try: more memory, by --guest or --map\n",
+        ),
+    ] {
+        refused(&boot(words), &bootable(), told);
+    }
+    let long = "x".repeat(2048);
+    refused(
+        &["boot", "--guest", "64K", "--cmdline", &long],
+        &bootable(),
+        "refused 91 LineTooLong\nthe line has 2048 bytes, and the kernel takes 2047\ntry: a shorter --cmdline\n",
+    );
+    refused(
+        &["boot", "--guest", "64K"],
+        b"",
+        "refused 7 ReadElfHeader\nstandard input was empty\n",
+    );
+}
+
+#[test]
+fn a_boot_that_cannot_be_read_is_wrong_usage() {
+    for words in [
+        &["boot", "--ramdisk", "/no/such/file"][..],
+        &["boot", "--tree", "/no/such/file"],
+        &["boot", "vmlinuz"],
+        &["boot", "--entry", "bios"],
+    ] {
+        let run = run(words, &bootable());
+        assert_eq!((run.out.as_str(), run.status), ("", Some(2)), "{words:?}");
+        assert!(run.err.starts_with("rekusoyen: "), "{}", run.err);
+    }
+    assert!(run(&["boot", "--help"], b"")
+        .out
+        .starts_with("usage: rekusoyen boot"));
 }
 
 #[test]

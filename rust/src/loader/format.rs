@@ -21,13 +21,13 @@ pub enum Format {
 /// Where a load is to put the kernel, and where high memory starts, if the caller says.
 #[derive(Clone, Copy)]
 pub struct Options {
-    pub(super) flags: u32,
-    pub(super) offset: u64,
-    pub(super) highmem: u64,
+    pub(crate) flags: u32,
+    pub(crate) offset: u64,
+    pub(crate) highmem: u64,
 }
 
 impl Options {
-    pub(super) fn new(offset: Option<GuestAddress>, highmem: Option<GuestAddress>) -> Options {
+    pub(crate) fn new(offset: Option<GuestAddress>, highmem: Option<GuestAddress>) -> Options {
         let flag = |given: bool, flag| if given { flag } else { 0 };
         let number = |address: Option<GuestAddress>| address.map_or(0, |address| address.0);
         Options {
@@ -40,7 +40,7 @@ impl Options {
 }
 
 /// What an accepted load returns: the result, and the note that the PVH entry of an ELF image was read from.
-pub(super) type Loaded = (KernelLoaderResult, Option<PvhNote>);
+pub(crate) type Loaded = (KernelLoaderResult, Option<PvhNote>);
 
 impl Format {
     /// The format of an image by its magic number: that of ELF, else of a bzImage, else of an arm64 Image. Nothing
@@ -111,7 +111,7 @@ impl Format {
     }
 
     /// What the numbers of an accepted load of this image say.
-    pub(super) fn loaded(self, image: &[u8], kernel: [u64; KERNEL_NUMBERS]) -> Loaded {
+    pub(crate) fn loaded(self, image: &[u8], kernel: [u64; KERNEL_NUMBERS]) -> Loaded {
         let [load, end, pvh, entry, offset, size] = kernel;
         let kernel = KernelLoaderResult {
             kernel_load: GuestAddress(load),

@@ -30,11 +30,12 @@ mod over_map;
 mod plan;
 mod portions;
 #[cfg(feature = "vm-memory")]
-mod regions;
+pub(crate) mod regions;
 
 pub use bzimage::*;
 pub use elf::*;
 pub use format::Format;
+pub(crate) use format::Options;
 #[cfg(feature = "vm-memory")]
 pub use guest_memory::{load_cmdline, KernelLoader};
 pub use over_map::{load_cmdline_into_map, MapError};

@@ -32,7 +32,7 @@ pub struct Plan {
 
 impl Format {
     /// The plan of a load. Guest memory ends with the last range of the map.
-    pub(super) fn plan(self, map: &Map, image: &[u8], options: Options) -> Result<Plan, Refusal> {
+    pub(crate) fn plan(self, map: &Map, image: &[u8], options: Options) -> Result<Plan, Refusal> {
         let (size, ranges) = (map.end(), map.numbers());
         let Options {
             flags,

@@ -6,7 +6,7 @@ use crate::entry::LONGEST_SLICE;
 use crate::{GuestAddress, Map};
 
 /// The ranges of guest memory: regions that touch are one range. What lies at 2^40 or above is left out.
-pub(super) fn map_of<M: GuestMemoryBackend>(guest_mem: &M) -> Map {
+pub(crate) fn map_of<M: GuestMemoryBackend>(guest_mem: &M) -> Map {
     let regions = guest_mem.iter().map(|region| {
         let start = region.start_addr().0;
         let end = start.saturating_add(region.len());
