@@ -2,16 +2,18 @@
 //! mistakes: the module above names which as `program`.
 
 use super::program::{
-    arm64, bzimage, desk, elf, line::Line, loading, note, page, start, steps, words, Refusal, Rules,
+    arm64, boot, bzimage, desk, elf, line::Line, loading, note, page, start, steps, words, Refusal,
+    Rules,
 };
 use crate::answer::{
-    Answer, Arm64Loaded, BzimageLoaded, CallAnswer, ElfLoaded, Note, NoteWalked, PageFound, Pvh,
-    StartFound, StepTold, StepsTold, Told,
+    Answer, Arm64Loaded, Booted, BzimageLoaded, CallAnswer, ElfLoaded, Note, NoteWalked, PageFound,
+    Pvh, StartFound, StepTold, StepsTold, Told,
 };
 use crate::desk::GUEST;
 use crate::lists::Lists;
 use crate::question::{
-    Call, Load, Loader, PageBuild, PageRead, Question, StartCheck, StartWrite, Steps, Walk, Words,
+    Boot, Call, Load, Loader, PageBuild, PageRead, Question, StartCheck, StartWrite, Steps, Walk,
+    Words,
 };
 
 /// What an untouched byte of a lent output holds.
@@ -62,7 +64,28 @@ pub fn answer_by(question: &Question, rules: second::Rules) -> Answer {
             let guest = Some(guest);
             Answer::Job { text, guest }
         }
+        Question::Boot(asked) => answer_boot(asked, &map),
     }
+}
+
+fn answer_boot(asked: &Boot, map: &[u64]) -> Answer {
+    let mut guest = asked.guest.clone();
+    let given = boot::Given {
+        image: &asked.image,
+        text: &asked.text,
+        init: &asked.init,
+        ramdisk: &asked.ramdisk,
+        rows: &asked.rows,
+        tree: &asked.tree,
+    };
+    let outcome = boot::boot(&mut guest, map, &asked.list, &given, asked.answers as usize);
+    let outcome = outcome.map_err(Refusal::number).map(|booted| Booted {
+        load: booted.load,
+        end: booted.end,
+        pvh: pvh(booted.pvh),
+        entry: booted.entry,
+    });
+    Answer::Boot { outcome, guest }
 }
 
 /// Every call of a load in steps. The published crate has none, so there is one set of rules.

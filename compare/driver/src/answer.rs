@@ -63,6 +63,15 @@ pub struct StartFound {
     pub ranges: Vec<u64>,
 }
 
+/// What an accepted boot answers.
+#[derive(Clone, Debug, PartialEq, Eq)]
+pub struct Booted {
+    pub load: u64,
+    pub end: u64,
+    pub pvh: Pvh,
+    pub entry: u64,
+}
+
 /// How many numbers of a start block's list are told.
 pub const NUMBERS_TOLD: usize = 400;
 
@@ -119,6 +128,10 @@ pub enum Answer {
         text: String,
         /// What a program leaves in its guest memory is not seen.
         guest: Option<Vec<u8>>,
+    },
+    Boot {
+        outcome: Result<Booted, u8>,
+        guest: Vec<u8>,
     },
 }
 
@@ -229,6 +242,10 @@ impl Answer {
             }
             Answer::StartCheck(Err(number)) => line += &format!("start refused {number}"),
             Answer::Job { text, .. } => line += &format!("job {text:?}"),
+            Answer::Boot { outcome, guest } => {
+                put_boot(&mut line, outcome);
+                put_guest(&mut line, before, guest);
+            }
         }
         line
     }
@@ -258,6 +275,7 @@ impl Answer {
                 let refusal = text.strip_prefix("refused ");
                 numbers.extend(refusal.and_then(|number| number.trim_end().parse::<u8>().ok()));
             }
+            Answer::Boot { outcome, .. } => numbers.extend(outcome.as_ref().err()),
         }
         numbers
     }
@@ -314,6 +332,16 @@ fn put_arm64(line: &mut String, outcome: &Result<Arm64Loaded, u8>) {
     *line += &match outcome {
         Ok((load, end)) => format!("arm64 ok {load} {end}"),
         Err(number) => format!("arm64 refused {number}"),
+    };
+}
+
+fn put_boot(line: &mut String, outcome: &Result<Booted, u8>) {
+    *line += &match outcome {
+        Ok(booted) => {
+            let (load, end, entry) = (booted.load, booted.end, booted.entry);
+            format!("boot ok {load} {end} pvh {} entry {entry}", pvh(booted.pvh))
+        }
+        Err(number) => format!("boot refused {number}"),
     };
 }
 
@@ -441,6 +469,27 @@ mod tests {
         };
         assert_eq!(answer.line(&[]), "bzimage refused 24 guest 0 0 0 0 0");
         assert_eq!(answer.numbers(), [24]);
+    }
+
+    #[test]
+    fn a_boot_tells_where_it_is_entered() {
+        let booted = Booted {
+            load: 1,
+            end: 2,
+            pvh: Pvh::Ignored,
+            entry: 513,
+        };
+        let guest = vec![];
+        let answer = Answer::Boot {
+            outcome: Ok(booted),
+            guest: guest.clone(),
+        };
+        let wanted = "boot ok 1 2 pvh ignored entry 513 guest 0 0 0 0 0";
+        assert_eq!(answer.line(&[]), wanted);
+        let outcome = Err(91);
+        let refused = Answer::Boot { outcome, guest };
+        assert_eq!(refused.line(&[]), "boot refused 91 guest 0 0 0 0 0");
+        assert_eq!(refused.numbers(), [91]);
     }
 
     #[test]

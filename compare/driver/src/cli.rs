@@ -15,13 +15,14 @@ use std::thread::available_parallelism;
 
 const USAGE: &str = "\
 compare run [WORDS]       asks everyone the same questions and compares all answers
-compare planted [WORDS]   plants mistakes in a copy of the second program; each must be noticed
+compare planted [WORDS] [FILE..]
+                          plants mistakes in a copy of the second program, or in these files of it; each must be noticed
 compare sample FOLDER     writes a sample of questions to FOLDER/questions, and the answers to FOLDER/answers
 compare images FILE..     loads real images by everyone and compares
 
 --seed N                  the seed, 1 where none is given: one seed, one result
 --threads N               how many threads ask, one for each processor where none is given
---elf N --note N --bzimage N --line N --load N --words N --page N --steps N --arm64 N --start N --job N
+--elf N --note N --bzimage N --line N --load N --words N --page N --steps N --arm64 N --start N --job N --boot N
                           how many random questions of each area, beside the exhaustive ones
 --exhaustive N            how many sixteenths of the exhaustive questions are asked, all 16 where none is given
 --tables N                how many 64ths of the small tables of jobs are asked, 4 if none is given
@@ -31,6 +32,7 @@ compare images FILE..     loads real images by everyone and compares
 /// How many random questions are asked if nothing else is said. A job starts a program, under an emulator on Arm.
 const RANDOM: [u64; Area::COUNT] = [
     600_000, 200_000, 300_000, 200_000, 100_000, 100_000, 60_000, 80_000, 200_000, 150_000, 500,
+    100_000,
 ];
 
 /// How many of the 64 parts of the small tables of jobs are asked if nothing else is said.
@@ -88,7 +90,7 @@ pub fn main(in_process: InProcess) {
             let jobs_agree = program.map_or(true, |program| or_exit(desk::run(&program)));
             report(&outcome, &backends) && jobs_agree
         }
-        "planted" => planted(words.seed, words.threads, published.as_ref()),
+        "planted" => planted(words.seed, words.threads, published.as_ref(), &words.others),
         "sample" => match words.others.as_slice() {
             [folder] => {
                 or_exit(sample::write(Path::new(folder), published.as_ref()).map(|()| true))

@@ -28,8 +28,8 @@ pub fn asks_crate(question: &Question) -> bool {
         Question::StartCheck(_) => false,
         // the crate has no load in steps
         Question::Steps(_) => false,
-        // nor a desk program
-        Question::Job(_) => false,
+        // nor a desk program, nor a whole boot
+        Question::Job(_) | Question::Boot(_) => false,
     }
 }
 

@@ -1,6 +1,6 @@
 //! Questions as bytes, in the form that `docs/SAMPLE.md` gives.
 
-use crate::question::{Call, Load, Loader, Map, Options, Question, Steps};
+use crate::question::{Boot, Call, Load, Loader, Map, Options, Question, Steps};
 
 /// The question with its length in front.
 pub fn framed(question: &Question) -> Vec<u8> {
@@ -95,6 +95,7 @@ fn body(question: &Question) -> Vec<u8> {
             out.extend(&check.guest);
         }
         Question::Job(_) => unreachable!("jobs are asked of the desk program only"),
+        Question::Boot(boot) => put_boot(&mut out, boot, &question.numbers()),
     }
     out
 }
@@ -139,6 +140,28 @@ fn put_steps(out: &mut Vec<u8>, steps: &Steps) {
             out.extend(number.to_le_bytes());
         }
         out.push(u8::from(call.is_whole));
+    }
+}
+
+/// A boot, always over a map: the count of its answer's numbers, its list with the count in front, the lengths of the
+/// slices and the slices.
+fn put_boot(out: &mut Vec<u8>, boot: &Boot, map: &[u64]) {
+    put_kind_and_map(out, 18, map);
+    out.push(boot.answers as u8);
+    put_map(out, &boot.list);
+    let slices = [
+        &boot.image,
+        &boot.guest,
+        &boot.text,
+        &boot.init,
+        &boot.ramdisk,
+        &boot.tree,
+    ];
+    slices.iter().for_each(|slice| put_length4(out, slice));
+    put_length2(out, boot.rows.len());
+    slices.iter().for_each(|slice| out.extend(*slice));
+    for number in &boot.rows {
+        out.extend(number.to_le_bytes());
     }
 }
 
@@ -231,4 +254,22 @@ fn put_length2(out: &mut Vec<u8>, length: usize) {
 
 fn put_length4(out: &mut Vec<u8>, bytes: &[u8]) {
     out.extend((bytes.len() as u32).to_le_bytes());
+}
+
+#[cfg(test)]
+mod tests {
+    use super::*;
+    use crate::boot_examples;
+
+    #[test]
+    fn a_boot_has_its_slices_in_turn() {
+        let boot = boot_examples::tree();
+        let bytes = framed(&Question::Boot(boot.clone()));
+        let numbers = 1 + 16 + 1 + 1 + 8 * 12;
+        let slices = [&boot.image[..], &boot.guest, &boot.text, &boot.ramdisk];
+        let wanted = [&slices.concat()[..], &boot.tree].concat();
+        assert_eq!(bytes[4..7], [18, 2, 0]);
+        assert_eq!(bytes[5 + numbers + 6 * 4 + 2..], wanted);
+        assert_eq!(bytes[..4], (bytes.len() as u32 - 4).to_le_bytes());
+    }
 }

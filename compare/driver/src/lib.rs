@@ -3,6 +3,7 @@
 
 pub mod answer;
 pub mod backend;
+pub mod boot_examples;
 mod cases;
 pub mod cli;
 pub mod compare;

@@ -1,8 +1,9 @@
 //! The parts of guest memory that the bytes of a question are for, whether they have room there or not.
 
 use crate::over_second::line_of;
-use crate::question::{LineLoad, Load, Question};
+use crate::question::{at, Boot, LineLoad, Load, Question, PAGE_32, PAGE_64, PVH, TREE};
 use second::fields::{u16_at, u32_at, u64_at};
+use second::setup::Setup;
 
 /// An address, and how many bytes are for it.
 pub type Part = (u64, u64);
@@ -25,6 +26,7 @@ pub fn parts(question: &Question) -> Vec<Part> {
             lists.chain([(write.block, 56)]).collect()
         }
         Question::StartCheck(check) => vec![(check.block, 56)],
+        Question::Boot(boot) => pieces(boot).into_iter().flatten().collect(),
         Question::Note(_)
         | Question::Line(_)
         | Question::Words(_)
@@ -32,6 +34,57 @@ pub fn parts(question: &Question) -> Vec<Part> {
         | Question::PageRead(_)
         | Question::Steps(_)
         | Question::Job(_) => vec![],
+    }
+}
+
+/// The pieces of a boot, each of one part or more or none: kernel, line, ramdisk and boot data.
+pub fn pieces(boot: &Boot) -> [Vec<Part>; 4] {
+    let size = boot.text.len() as u64 + 1;
+    let init = boot.init.len() as u64;
+    let init = if init > 0 { init + 4 } else { 0 };
+    let line = (boot.number(at::LINE), size + init);
+    let ramdisk = (boot.number(at::RAMDISK), boot.ramdisk.len() as u64);
+    let rows = boot.rows.len() as u64;
+    let data = match boot.number(at::ENTRY) {
+        PAGE_32 | PAGE_64 => 4096,
+        PVH => 56 + 32 * u64::from(ramdisk.1 > 0) + 6 * rows,
+        _ => boot.tree.len() as u64,
+    };
+    let has_line = boot.number(at::ENTRY) != TREE;
+    [
+        boot_kernel(boot),
+        has_line.then_some(line).into_iter().collect(),
+        vec![ramdisk],
+        vec![(boot.number(at::DATA), data)],
+    ]
+}
+
+/// What a boot's kernel writes, and the memory that it takes.
+fn boot_kernel(boot: &Boot) -> Vec<Part> {
+    let (load, image) = (boot.load(), &boot.image);
+    match boot.number(at::FORMAT) {
+        1 => {
+            let taken = second::elf::taken(image, load.options.offset);
+            let part =
+                |span: std::ops::Range<u128>| (span.start as u64, (span.end - span.start) as u64);
+            taken.into_iter().map(part).collect()
+        }
+        2 => {
+            let Some(header) = image.get(0x1f1..0x1f1 + 123) else {
+                return vec![];
+            };
+            let setup = Setup(header.try_into().expect("a header has 123 bytes"));
+            let taken = setup.taken(kernel_address(&load).unwrap_or(0));
+            let size = (taken.end - taken.start) as u64;
+            let taken = (size > 0).then_some((taken.start as u64, size));
+            kernel(&load).into_iter().chain(taken).collect()
+        }
+        _ => {
+            let size = image.get(16..24).map(|size| u64_at(size, 0));
+            let file = file(&load).into_iter();
+            let parts = file.flat_map(|part| [Some(part), size.map(|size| (part.0, size))]);
+            parts.flatten().collect()
+        }
     }
 }
 

@@ -9,11 +9,12 @@ use second::Rules;
 
 /// Enough random questions for a rare path, after all the exhaustive ones.
 const RANDOM: [u64; Area::COUNT] = [
-    160_000, 80_000, 80_000, 80_000, 40_000, 40_000, 20_000, 20_000, 60_000, 60_000, 10_000,
+    160_000, 80_000, 80_000, 80_000, 40_000, 40_000, 20_000, 20_000, 60_000, 60_000, 10_000, 40_000,
 ];
 
-/// Prints for each mistake who noticed it, then the score; answers whether the unedited program noticed them all.
-pub fn planted(seed: u64, threads: usize, published: Option<&Maker>) -> bool {
+/// Prints for each mistake who noticed it, then the score; answers whether the unedited program noticed them all. If
+/// files are named, only their mistakes are planted.
+pub fn planted(seed: u64, threads: usize, published: Option<&Maker>, files: &[String]) -> bool {
     // the unedited program judges by both rules: a mistake in a departure shows by the one, and one in what it replaced by the other
     let by = |rules| -> Maker { Box::new(move || Box::new(Second { rules })) };
     let second = [Rules::landed(), Rules::PUBLISHED].map(by);
@@ -42,8 +43,12 @@ pub fn planted(seed: u64, threads: usize, published: Option<&Maker>) -> bool {
     plan.random = RANDOM;
 
     let mut scores = vec![0; judges.len()];
-    for (index, (file, what)) in planted::MISTAKES.iter().enumerate() {
-        planted::switch_on(index);
+    let mistakes = planted::MISTAKES.iter().enumerate();
+    let is_named = |file: &str| files.is_empty() || files.iter().any(|named| named == file);
+    let mistakes: Vec<_> = mistakes.filter(|(_, (file, _))| is_named(file)).collect();
+    for (index, (file, what)) in &mistakes {
+        planted::switch_on(*index);
+        plan.areas = areas(file);
         let mut words = Vec::new();
         for ((name, judge), score) in judges.iter().zip(&mut scores) {
             let outcome = run(&plan, over_planted::answer_by, judge);
@@ -60,7 +65,7 @@ pub fn planted(seed: u64, threads: usize, published: Option<&Maker>) -> bool {
     }
     planted::switch_on(usize::MAX);
 
-    let count = planted::MISTAKES.len();
+    let count = mistakes.len();
     let scored: Vec<String> = judges
         .iter()
         .zip(&scores)
@@ -68,4 +73,11 @@ pub fn planted(seed: u64, threads: usize, published: Option<&Maker>) -> bool {
         .collect();
     println!("planted mistakes noticed: {}", scored.join(", "));
     control.difference_count == 0 && scores[0] == count
+}
+
+/// All areas, with that of the file first if other areas do not look at it.
+fn areas(file: &str) -> Vec<Area> {
+    let is_first = |area: &Area| *area == Area::Boot && matches!(file, "boot.rs" | "setup.rs");
+    let (first, others): (Vec<Area>, Vec<Area>) = Area::ALL.into_iter().partition(is_first);
+    [first, others].concat()
 }

@@ -91,6 +91,73 @@ pub struct StartCheck {
     pub guest: Vec<u8>,
 }
 
+/// A whole boot, over the slices and the list of numbers that the C call takes.
+#[derive(Clone, Debug, Default, PartialEq, Eq)]
+pub struct Boot {
+    pub map: Map,
+    /// Format, flags, offset, highmem, entry, whether a limit is given, limit, addresses of line, ramdisk and boot data
+    /// (with a device tree the line's offset in it), address of the RSDP, and 0. Any count is asked.
+    pub list: Vec<u64>,
+    /// How many numbers the answer has room for.
+    pub answers: u32,
+    pub image: Vec<u8>,
+    pub guest: Vec<u8>,
+    pub text: Vec<u8>,
+    pub init: Vec<u8>,
+    pub ramdisk: Vec<u8>,
+    /// Three for each row, and four with a start block.
+    pub rows: Vec<u64>,
+    pub tree: Vec<u8>,
+}
+
+/// The indices of a boot's list.
+pub mod at {
+    pub const FORMAT: usize = 0;
+    pub const FLAGS: usize = 1;
+    pub const OFFSET: usize = 2;
+    pub const HIGHMEM: usize = 3;
+    pub const ENTRY: usize = 4;
+    pub const HAS_LIMIT: usize = 5;
+    pub const LIMIT: usize = 6;
+    pub const LINE: usize = 7;
+    pub const RAMDISK: usize = 8;
+    pub const DATA: usize = 9;
+    pub const RSDP: usize = 10;
+    pub const RESERVED: usize = 11;
+}
+
+/// The entries of a boot.
+pub const PAGE_32: u64 = 1;
+pub const PAGE_64: u64 = 2;
+pub const PVH: u64 = 3;
+pub const TREE: u64 = 4;
+
+impl Boot {
+    /// A number of the list, and 0 if the list is too short.
+    pub fn number(&self, index: usize) -> u64 {
+        self.list.get(index).copied().unwrap_or(0)
+    }
+
+    /// Offset and highmem, if they are given.
+    pub fn options(&self) -> Options {
+        let given = |flag, index| (self.number(at::FLAGS) & flag != 0).then(|| self.number(index));
+        Options {
+            offset: given(1, at::OFFSET),
+            highmem: given(2, at::HIGHMEM),
+        }
+    }
+
+    /// The load of its kernel.
+    pub fn load(&self) -> Load {
+        Load {
+            options: self.options(),
+            map: self.map.clone(),
+            image: self.image.clone(),
+            guest: vec![],
+        }
+    }
+}
+
 /// Whose load is taken in steps.
 #[derive(Clone, Copy, Debug, PartialEq, Eq)]
 pub enum Loader {
@@ -163,6 +230,7 @@ pub enum Question {
     StartCheck(StartCheck),
     /// A job of the desk program.
     Job(Vec<u8>),
+    Boot(Boot),
 }
 
 /// A line to read the words of, and how many places each of the three lists has.
@@ -221,11 +289,12 @@ pub enum Area {
     Arm64,
     Start,
     Job,
+    Boot,
 }
 
 impl Area {
     /// How many there are.
-    pub const COUNT: usize = 11;
+    pub const COUNT: usize = 12;
 
     pub const ALL: [Area; Area::COUNT] = [
         Area::Elf,
@@ -239,6 +308,7 @@ impl Area {
         Area::Arm64,
         Area::Start,
         Area::Job,
+        Area::Boot,
     ];
 
     pub fn name(self) -> &'static str {
@@ -254,6 +324,7 @@ impl Area {
             Area::Arm64 => "arm64",
             Area::Start => "start",
             Area::Job => "job",
+            Area::Boot => "boot",
         }
     }
 
@@ -276,6 +347,7 @@ impl Question {
             Question::Arm64(_) => Area::Arm64,
             Question::StartWrite(_) | Question::StartCheck(_) => Area::Start,
             Question::Job(_) => Area::Job,
+            Question::Boot(_) => Area::Boot,
         }
     }
 
@@ -288,6 +360,7 @@ impl Question {
             Question::Steps(steps) => &steps.guest,
             Question::StartWrite(write) => &write.guest,
             Question::StartCheck(check) => &check.guest,
+            Question::Boot(boot) => &boot.guest,
             Question::Note(_)
             | Question::Line(_)
             | Question::Words(_)
@@ -305,6 +378,7 @@ impl Question {
             Question::LineLoad(load) => load.map.as_deref(),
             Question::StartWrite(write) => Some(&write.map),
             Question::StartCheck(check) => Some(&check.map),
+            Question::Boot(boot) => boot.map.as_deref(),
             Question::Note(_)
             | Question::Line(_)
             | Question::Words(_)
@@ -332,6 +406,7 @@ impl Question {
             Question::StartCheck(check) => {
                 check.map = map.unwrap_or_else(|| whole(check.guest.len()));
             }
+            Question::Boot(boot) => boot.map = map,
             Question::Note(_)
             | Question::Line(_)
             | Question::Words(_)

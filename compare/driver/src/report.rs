@@ -12,10 +12,11 @@ use crate::shrink::shrink;
 const SHOWN: usize = 3;
 
 /// Every number of the rules that questions of ordinary sizes can reach; 60 needs a slice of more than 2^40 bytes.
-const REACHABLE: [u8; 54] = [
+const REACHABLE: [u8; 72] = [
     1, 2, 3, 4, 5, 6, 7, 8, 9, 10, 11, 12, 13, 14, 21, 22, 23, 24, 31, 32, 41, 42, 43, 44, 45, 46,
     47, 48, 49, 50, 51, 61, 62, 63, 64, 70, 71, 72, 73, 74, 75, 76, 77, 78, 79, 80, 81, 82, 83, 84,
-    85, 86, 87, 88,
+    85, 86, 87, 88, 91, 92, 93, 94, 95, 96, 97, 98, 99, 100, 101, 102, 103, 104, 105, 106, 107,
+    108,
 ];
 
 /// Prints the differences, each made small, and the last line; answers whether there was none.

@@ -300,7 +300,7 @@ mod tests {
         let plan = Plan {
             seed,
             areas: Area::ALL.to_vec(),
-            random: [300, 300, 20, 9000, 300, 300, 40, 50, 30, 300, 40],
+            random: [300, 300, 20, 9000, 300, 300, 40, 50, 30, 300, 40, 60],
             exhaustive: 0,
             tables: 0,
             threads,
@@ -317,11 +317,13 @@ mod tests {
         let first = outcome(5, 1);
         assert_eq!(
             first.cases,
-            [300, 300, 20, 9000, 300, 300, 40, 50, 30, 300, 40]
+            [300, 300, 20, 9000, 300, 300, 40, 50, 30, 300, 40, 60]
         );
         assert_eq!(first.numbers, outcome(5, 3).numbers);
         assert_ne!(first.numbers, outcome(6, 1).numbers);
-        assert_eq!(first.over_maps, 100 + 7 + 100 + 10 + 300);
+        // a third of the boots, and those that have a map of their own
+        let boots = first.over_maps - (100 + 7 + 100 + 10 + 300);
+        assert!((20..60).contains(&boots), "{boots}");
         assert_eq!(first.difference_count, 0);
         assert_eq!(first.compared, [first.cases]);
         assert_eq!(first.compared_over_maps, [first.over_maps]);

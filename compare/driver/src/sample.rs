@@ -21,8 +21,8 @@ use std::path::Path;
 const SEED: u64 = 1;
 
 /// How many bytes the random questions of an area and their answers may take. Jobs are asked of the desk program,
-/// which has no such form.
-const BUDGET: [(Area, usize); Area::COUNT - 1] = [
+/// which has no such form, and boots are not in the sample.
+const BUDGET: [(Area, usize); Area::COUNT - 2] = [
     (Area::Elf, 150_000),
     (Area::Note, 86_500),
     (Area::Bzimage, 90_000),

@@ -1,6 +1,8 @@
 //! Questions as a person reads them.
 
-use crate::question::{Call, Load, Map, Options, PageBuild, PageRead, Question, StartWrite, Steps};
+use crate::question::{
+    Boot, Call, Load, Map, Options, PageBuild, PageRead, Question, StartWrite, Steps,
+};
 use std::fmt::Write;
 
 pub fn show(question: &Question) -> String {
@@ -38,6 +40,7 @@ pub fn show(question: &Question) -> String {
             show_bytes("guest", &check.guest)
         ),
         Question::Job(job) => format!("a job\n{}", show_bytes("job", job)),
+        Question::Boot(boot) => show_boot(boot),
     }
 }
 
@@ -77,6 +80,39 @@ fn show_write(write: &StartWrite) -> String {
     let (modules, ranges, map) = (&write.modules, &write.ranges, &write.map);
     let guest = show_bytes("guest", &write.guest);
     format!("a start block written, parts at {places:?}, says {said:?}, modules {modules:?}, ranges {ranges:?}, map {map:?}\n{guest}")
+}
+
+fn show_boot(boot: &Boot) -> String {
+    const NAMES: [&str; 12] = [
+        "format",
+        "flags",
+        "offset",
+        "highmem",
+        "entry",
+        "has limit",
+        "limit",
+        "line",
+        "ramdisk",
+        "boot data",
+        "rsdp",
+        "reserved",
+    ];
+    let names = NAMES.iter().chain(std::iter::repeat(&"more"));
+    let mut said = format!("a boot, {} answers{}\n ", boot.answers, show_map(&boot.map));
+    for (name, number) in names.zip(&boot.list) {
+        said += &format!(" {name} {number:#x}");
+    }
+    said += &format!("\n  line {} -- {}\n", text(&boot.text), text(&boot.init));
+    said += &format!("  rows {:?}\n", boot.rows);
+    for (name, bytes) in [
+        ("ramdisk", &boot.ramdisk),
+        ("tree", &boot.tree),
+        ("image", &boot.image),
+        ("guest", &boot.guest),
+    ] {
+        said += &show_bytes(name, bytes);
+    }
+    said
 }
 
 fn show_options(options: Options) -> String {

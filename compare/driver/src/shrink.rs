@@ -1,7 +1,7 @@
 //! Makes a differing question as small as it can be while it still differs.
 
 use crate::question::{
-    Call, Load, Map, PageBuild, PageRead, Question, StartCheck, StartWrite, Steps, Words,
+    Boot, Call, Load, Map, PageBuild, PageRead, Question, StartCheck, StartWrite, Steps, Words,
 };
 
 /// How many questions are asked at most in search of a smaller one.
@@ -111,7 +111,52 @@ fn smaller(question: &Question) -> Vec<Question> {
             all.into_iter().map(Question::StartCheck).collect()
         }
         Question::Job(job) => smaller_bytes(job).map(Question::Job).collect(),
+        Question::Boot(boot) => smaller_boots(boot)
+            .into_iter()
+            .map(Question::Boot)
+            .collect(),
     }
+}
+
+/// A smaller slice, a smaller number, or fewer rows.
+fn smaller_boots(boot: &Boot) -> Vec<Boot> {
+    let changed = |change: &dyn Fn(&mut Boot)| {
+        let mut smaller = boot.clone();
+        change(&mut smaller);
+        smaller
+    };
+    let mut all = Vec::new();
+    type Slice = fn(&mut Boot) -> &mut Vec<u8>;
+    let slices: [(&Vec<u8>, Slice); 6] = [
+        (&boot.guest, |boot| &mut boot.guest),
+        (&boot.image, |boot| &mut boot.image),
+        (&boot.text, |boot| &mut boot.text),
+        (&boot.init, |boot| &mut boot.init),
+        (&boot.ramdisk, |boot| &mut boot.ramdisk),
+        (&boot.tree, |boot| &mut boot.tree),
+    ];
+    for map in smaller_maps(&boot.map) {
+        all.push(changed(&|smaller| smaller.map.clone_from(&map)));
+    }
+    for (index, number) in boot.list.iter().enumerate() {
+        for less in smaller_numbers(*number) {
+            all.push(changed(&|smaller| smaller.list[index] = less));
+        }
+    }
+    for index in 0..boot.rows.len() {
+        for count in [3, 4] {
+            let end = boot.rows.len().min(index + count);
+            all.push(changed(&|smaller| drop(smaller.rows.drain(index..end))));
+        }
+        for less in smaller_numbers(boot.rows[index]) {
+            all.push(changed(&|smaller| smaller.rows[index] = less));
+        }
+    }
+    for (bytes, slice) in slices {
+        let smaller = smaller_bytes(bytes);
+        all.extend(smaller.map(|bytes| changed(&|smaller| slice(smaller).clone_from(&bytes))));
+    }
+    all
 }
 
 /// A call less, a smaller budget, or bytes of the same length that are 0.

@@ -11,7 +11,7 @@ fn compare(words: &[&str]) -> Output {
 
 #[test]
 fn a_program_that_prints_nothing_differs_on_every_job() {
-    let areas = "elf note bzimage line load words page steps arm64 start".split(' ');
+    let areas = "elf note bzimage line load words page steps arm64 start boot".split(' ');
     let none = areas.flat_map(|area| [format!("--{area}"), "0".into()]);
     let none: Vec<String> = none.collect();
     let mut words = vec!["run", "--desk", "true", "--job", "30"];

@@ -61,7 +61,7 @@ impl Published {
             Question::Bzimage(load) => self.bzimage(load),
             Question::Line(calls) => Answer::Line(lines::answer_calls(calls).0),
             Question::LineLoad(load) => self.line_load(load),
-            Question::Words(_) | Question::Arm64(_) | Question::Job(_) => {
+            Question::Words(_) | Question::Arm64(_) | Question::Job(_) | Question::Boot(_) => {
                 unreachable!("the crate is not asked for these")
             }
             Question::PageBuild(build) => pages::build(build),

@@ -1,5 +1,6 @@
 //! The proved library, linked into this process.
 
+mod boots;
 #[path = "../../../rust/src/ffi.rs"]
 mod ffi;
 mod lines;
@@ -36,6 +37,7 @@ impl Backend for Proved {
             Question::Arm64(load) => loads::answer(Loader::Arm64, load, &map),
             Question::StartWrite(write) => starts::write(write),
             Question::StartCheck(check) => starts::check(check),
+            Question::Boot(boot) => return boots::boot(boot, &map),
             // asked of the desk program
             Question::Job(_) => return Reply::Outside,
         })

@@ -29,7 +29,7 @@ pub fn asked(loader: Loader, options: Options) -> (u32, u32, u64, u64) {
 
 /// PVH by its code, its address, and the offset and size of the descriptor that it was read from: all 0 if there is
 /// none.
-fn pvh(code: u64, address: u64, place: u64, size: u64) -> Pvh {
+pub fn pvh(code: u64, address: u64, place: u64, size: u64) -> Pvh {
     if code == entry::PVH_PRESENT {
         return Pvh::At(address, Some(Note { place, size }));
     }

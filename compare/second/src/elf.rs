@@ -4,6 +4,7 @@ use crate::fields::{range, u16_at, u32_at, u64_at, within_limit, ADDRESS_LIMIT};
 use crate::map::Map;
 use crate::note::{self, Pvh};
 use crate::{Departure, Refusal, Rules};
+use std::ops::Range;
 
 const MAGIC: [u8; 4] = [0x7f, 0x45, 0x4c, 0x46];
 const LITTLE_ENDIAN: u8 = 1;
@@ -115,6 +116,19 @@ pub fn writes(image: &[u8], offset: Option<u64>) -> Vec<(usize, usize)> {
         }
     }
     writes
+}
+
+/// The memory of every loadable segment of an accepted load, with file bytes or without.
+pub fn taken(image: &[u8], offset: Option<u64>) -> Vec<Range<u128>> {
+    let headers = read_header(image).and_then(|header| program_headers(image, &header));
+    let headers = headers.unwrap_or_default().into_iter();
+    headers
+        .filter(|memory| memory.kind == TYPE_LOAD)
+        .map(|memory| {
+            let start = u128::from(memory.address) + u128::from(offset.unwrap_or(0));
+            start..start + u128::from(memory.memory_size)
+        })
+        .collect()
 }
 
 fn read_header(image: &[u8]) -> Result<Header, Refusal> {

@@ -5,6 +5,7 @@
 //! can wrap, and everything works on slices.
 
 pub mod arm64;
+pub mod boot;
 pub mod bzimage;
 pub mod desk;
 pub mod device;
@@ -18,6 +19,7 @@ pub mod page;
 pub mod refusal;
 pub mod rules;
 pub mod separator;
+pub mod setup;
 pub mod start;
 pub mod steps;
 pub mod text;
@@ -25,3 +27,6 @@ pub mod words;
 
 pub use refusal::Refusal;
 pub use rules::{Departure, Rules};
+
+#[cfg(test)]
+mod boot_tests;

@@ -39,6 +39,15 @@ impl Line {
         Ok(line)
     }
 
+    /// The line of two texts as they are, of any length.
+    pub fn of_texts(boot: &[u8], init: &[u8]) -> Line {
+        Line {
+            capacity: usize::MAX,
+            boot: boot.to_vec(),
+            init: init.to_vec(),
+        }
+    }
+
     /// What the texts take of the capacity, with the separator and the closing zero.
     pub fn counted_size(&self) -> usize {
         let mut size = self.boot.len() + 1;

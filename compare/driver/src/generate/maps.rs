@@ -12,7 +12,9 @@ const RANGES: usize = 16;
 pub fn over_map(question: Question, rng: &mut Rng) -> Question {
     let length = question.guest().len() as u64;
     let parts: Vec<Part> = parts(&question).into_iter().take(RANGES).collect();
-    let mut numbers = if rng.one_in(2) {
+    // a boot has so many parts that ranges at random seldom have them all
+    let is_boot = matches!(question, Question::Boot(_));
+    let mut numbers = if rng.one_in(2) || is_boot && !rng.one_in(4) {
         around_parts(rng, &parts, length)
     } else {
         with_random_edges(rng, &parts, length)

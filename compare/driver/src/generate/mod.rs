@@ -1,6 +1,7 @@
 //! Where questions come from: exhaustively near the worked examples, and at random around every limit.
 
 mod arm64;
+mod boot;
 mod bzimage;
 mod elf;
 mod exhaustive;
@@ -18,6 +19,7 @@ mod words;
 
 pub use exhaustive::exhaustive;
 pub use maps::over_map;
+pub use steps::image as elf_image;
 
 use crate::question::{Area, Question};
 use crate::rng::Rng;
@@ -36,6 +38,7 @@ pub fn random(area: Area, rng: &mut Rng) -> Question {
         Area::Job => Question::Job(job::question(rng)),
         Area::Arm64 => Question::Arm64(arm64::question(rng)),
         Area::Start => start::question(rng),
+        Area::Boot => Question::Boot(boot::question(rng)),
     }
 }
 

@@ -16,9 +16,13 @@ pub fn maps(area: Area) -> Box<dyn Iterator<Item = Question>> {
         Area::LineLoad => Box::new(of_area.chain(lines())),
         Area::Arm64 => Box::new(of_area.chain(arm64())),
         Area::Start => Box::new(of_area),
-        Area::Note | Area::Line | Area::Words | Area::Page | Area::Steps | Area::Job => {
-            Box::new(std::iter::empty())
-        }
+        Area::Note
+        | Area::Line
+        | Area::Words
+        | Area::Page
+        | Area::Steps
+        | Area::Job
+        | Area::Boot => Box::new(std::iter::empty()),
     }
 }
 

@@ -2,6 +2,9 @@
 //! program headers of each kind in each order; small maps; and every split of small loads into portions.
 
 mod arm64;
+mod boot;
+mod boot_fields;
+mod boot_pairs;
 mod image;
 mod job;
 mod line;
@@ -36,5 +39,6 @@ fn over_whole_slices(area: Area) -> Box<dyn Iterator<Item = Question>> {
         Area::Job => Box::new(job::jobs().map(Question::Job)),
         Area::Arm64 => Box::new(arm64::arm64().map(Question::Arm64)),
         Area::Start => Box::new(start::start()),
+        Area::Boot => Box::new(boot::boots().map(Question::Boot)),
     }
 }
