@@ -14,7 +14,10 @@ const BAD_LIST: u32 = 61;
 /// The number that the library answers, or BAD_LIST for a list that its parameters cannot hold.
 fn ask(asked: &Boot, map: &[u64], guest: &mut [u8], booted: &mut [u64]) -> u32 {
     let list = &asked.list;
-    if list.len() != at::RESERVED + 1 || booted.len() != entry::BOOTED_NUMBERS || list[at::RESERVED] != 0 {
+    if list.len() != at::RESERVED + 1
+        || booted.len() != entry::BOOTED_NUMBERS
+        || list[at::RESERVED] != 0
+    {
         return BAD_LIST;
     }
     // no format has the number 0, and no line is as long as the greatest limit
@@ -27,7 +30,9 @@ fn ask(asked: &Boot, map: &[u64], guest: &mut [u8], booted: &mut [u64]) -> u32 {
     match list[at::ENTRY] {
         kind @ (1 | 2) => {
             let wide = u32::from(kind == 2) * entry::ENTRY_64_BIT;
-            let (Ok(line), Ok(ramdisk), Ok(page)) = (narrow(at::LINE), narrow(at::RAMDISK), narrow(at::DATA)) else {
+            let (Ok(line), Ok(ramdisk), Ok(page)) =
+                (narrow(at::LINE), narrow(at::RAMDISK), narrow(at::DATA))
+            else {
                 return BAD_LIST;
             };
             call!(rekusoyen_raw_boot_zero_page(
