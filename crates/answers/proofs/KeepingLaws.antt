@@ -1,5 +1,5 @@
 -- Laws of what is kept: through a pick, a map, a row of tests.
-use mathlib.Core.Path.{◌≡◌, sym, ◌∙◌, refl, subst, subst⁻¹, subst₂}
+use mathlib.Core.Path.{◌≡◌, sym, ◌∙◌, refl, subst⁻¹, subst₂}
 use mathlib.Core.Bool.{Bool, true, false}
 use mathlib.Core.List.{List, [], ◌∷◌, ◌++◌}
 use Prim.Native.Nat.{ℕ, ◌≤◌}

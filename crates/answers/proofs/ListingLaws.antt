@@ -15,6 +15,7 @@ use Rattle.answers.proofs.BoolLaws.{both_held, one_held, left_holds, right_holds
 -- the first test of a row that fails has a number of the list
 pub first_listed : (numbers : List ℕ) (ts : List Test) {refusal : Refusal} → row_listed numbers ts ≡ true → FirstFails refusal ts → Listed numbers refusal
 unfolding row_listed
+first_listed numbers [] ok x' = elim x' [ ]
 first_listed numbers (t ∷ ts) ok (here f e) =
     subst (Listed numbers) e (both_held (contains numbers (number_of t.1)) (row_listed numbers ts) ok).0
 first_listed numbers (t ∷ ts) ok (later h rest) =

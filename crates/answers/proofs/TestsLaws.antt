@@ -66,6 +66,7 @@ shut_first (t ∷ ts) refusal e =
     by_first t ts (λ h. later h (shut_first ts refusal (sym (first_held t ts h) ∙ e))) (λ f. here f (same_refusal (sym (first_failed t ts f) ∙ e)))
 
 pub first_shut : (ts : List Test) (refusal : Refusal) → FirstFails refusal ts → asked_all Open ts ≡ Shut refusal
+first_shut [] refusal x' = elim x' [ ]
 first_shut (t ∷ ts) refusal (here f e) = first_failed t ts f ∙ ap Shut e
 first_shut (t ∷ ts) refusal (later h rest) = first_held t ts h ∙ first_shut ts refusal rest
 
@@ -89,6 +90,7 @@ hold_append (t ∷ ts) us h k = (h.0, hold_append ts us h.1 k)
 
 -- a test that fails in the first row, or in the second after all of the first held
 pub fails_left : {r : Refusal} (ts us : List Test) → FirstFails r ts → FirstFails r (ts ++ us)
+fails_left [] us x' = elim x' [ ]
 fails_left (t ∷ ts) us (here f e) = here f e
 fails_left (t ∷ ts) us (later h rest) = later h (fails_left ts us rest)
 

@@ -1,10 +1,12 @@
 // Every answer that is a refusal, and the order in which tests refuse.
+#![tactic(auto)]
+
 ghost use Rattle.std.specs.Prelude.{◌≡◌};
 ghost use Rattle.answers.specs.Catalogue.{number_of};
 ghost use Rattle.answers.specs.Tests.{asked, is_open};
 
 // Every refusal, by name. Its number is `number`'s to say; the C header and the Rust crate repeat it, and are tested to say the same.
-#[derive(Drop)]
+#[derive(Clone, Copy)]
 pub enum Refusal {
     // ELF
     InvalidElfMagicNumber,
@@ -177,7 +179,7 @@ pub fn number(refusal: Refusal) -> u32
 }
 
 // Where a row of tests stands: open while none has failed, shut by the first that does.
-#[derive(Drop)]
+#[derive(Clone, Copy)]
 pub enum Gate {
     Open,
     Shut(Refusal),

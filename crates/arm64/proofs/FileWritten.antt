@@ -12,7 +12,7 @@ use Rattle.guest.specs.declared.Answer.{Answer}
 use Rattle.guest.specs.declared.Answer.TheVariants.{Loaded}
 use Rattle.guest.specs.declared.KernelLoaderResult.{KernelLoaderResult}
 use Rattle.arm64.specs.Image.{start_of}
-use Rattle.arm64.specs.Plan.{plan_of, ImageLoads}
+use Rattle.arm64.specs.Plan.{ImageLoads}
 use Rattle.arm64.proofs.PlanLaws.{hold_room, plan_loaded, loaded_plan}
 
 module _ (image : List ℕ) (base : ℕ) (map : Map) (guest : List ℕ) {r : Answer} {after : List ℕ} (loads : ImageLoads image base map guest r after) where

@@ -1,7 +1,7 @@
 -- "Two images of one length that hold the same bytes in the header have the same plan": the same answer and the same part, whatever the rest of either
 -- image holds. So a caller may plan with those bytes only, and copy the part from the whole image (`loads`, Footprint).
 use Prim.Native.Nat.{ℕ, ◌+◌, ◌≤◌}
-use mathlib.Core.Path.{◌≡◌, sym, ◌∙◌, refl}
+use mathlib.Core.Path.{◌≡◌}
 use mathlib.Core.List.{List}
 use native.Mathlib.Omega.{arith}
 use Rattle.fields.specs.Numbers.{le}

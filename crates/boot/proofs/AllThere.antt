@@ -1,18 +1,17 @@
 -- "After an accepted boot, at one time, each piece is there": a kernel and blobs that are apart from it and from each other.
 use Prim.Native.Nat.{ℕ, ◌≤◌, ◌<◌}
-use mathlib.Core.Path.{◌≡◌, sym, ◌∙◌, ap, subst⁻¹}
+use mathlib.Core.Path.{◌≡◌, ◌∙◌, ap, subst⁻¹}
 use mathlib.Core.Bool.{true}
-use mathlib.Core.List.{List, [], ◌∷◌, ◌++◌}
+use mathlib.Core.List.{List}
 use lib.ListN.{length, get_or}
-use Rattle.fields.specs.Ranges.{Among}
 use Rattle.guest.specs.Room.{room}
 use Rattle.guest.specs.Stream.{pour}
 use Rattle.guest.specs.declared.Memory.{Memory}
 use Rattle.guest.proofs.StreamLaws.{length_pour, pour_append}
 use Rattle.loads.specs.declared.Options.{Options}
 use native.Mathlib.Omega.{arith}
-use Rattle.boot.specs.Blobs.{Blob, stream_of, OneOf, first, next, Holds, OutOf, AllApart}
-use Rattle.boot.specs.Kernel.{kernel_apart, kernel_stream, InKernel}
+use Rattle.boot.specs.Blobs.{Blob, stream_of, OneOf, Holds, AllApart}
+use Rattle.boot.specs.Kernel.{kernel_apart, kernel_stream}
 use Rattle.boot.specs.Plan.{extent, boot_stream}
 use Rattle.boot.specs.There.{AllThere}
 use Rattle.boot.proofs.BlobsHold.{blobs_outside, blobs_hold}

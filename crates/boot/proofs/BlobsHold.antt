@@ -1,11 +1,11 @@
 -- Blobs that are apart and have room: after all of them were written each is there whole, and every other byte is as it was.
 use Prim.Native.Nat.{ℕ, ◌+◌, ◌≤◌, ◌<◌}
-use mathlib.Core.Path.{◌≡◌, sym, ◌∙◌, refl, ap, subst⁻¹}
+use mathlib.Core.Path.{◌≡◌, ◌∙◌, refl, ap, subst⁻¹}
 use mathlib.Core.Bool.{true}
-use mathlib.Core.List.{List, [], ◌∷◌, ◌++◌}
+use mathlib.Core.List.{List, [], ◌∷◌}
 use native.Mathlib.Omega.{arith}
 use lib.ListN.{length, get_or}
-use Rattle.fields.specs.Ranges.{apart, Among}
+use Rattle.fields.specs.Ranges.{Among}
 use Rattle.fields.proofs.ApartLaws.{apart_none}
 use Rattle.fields.proofs.CopyingLaws.{sets_outside}
 use Rattle.guest.specs.Room.{room}
@@ -32,6 +32,7 @@ blobs_outside (b ∷ bs) a out guest =
 
 -- what is apart from a blob has no address of it
 pub apart_out : (b : Blob) (cs : List Blob) → ApartFrom b cs → (a : ℕ) → Among a b.0 (length b.1) → OutOf a cs
+apart_out b [] h a among d x3 = elim x3 [ ]
 apart_out b (c ∷ cs) h a among d first = apart_none b.0 (length b.1) c.0 (length c.1) h.0 a among
 apart_out b (c ∷ cs) h a among d (next o) = apart_out b cs h.1 a among d o
 
@@ -39,6 +40,7 @@ pub blobs_hold : (bs : List Blob) → AllApart bs → (b : Blob) → OneOf b bs 
     → (0 < length b.1 → room m b.0 (length b.1) ≡ true) → (guest : List ℕ) → m.size ≤ length guest
     → Holds b (pour (stream_of bs) guest)
 unfolding stream_of
+blobs_hold [] h b x4 m has guest fits = elim x4 [ ]
 blobs_hold (b ∷ bs) h _ first m has guest fits =
     let alone = poured_stands b.1 b.0 guest m has fits refl in
     let g = pour (stream_at b.0 b.1) guest in

@@ -2,13 +2,12 @@
 use Prim.Native.Nat.{ℕ, ◌≤◌}
 use mathlib.Core.Path.{◌≡◌}
 use mathlib.Core.Bool.{true, false}
-use mathlib.Core.List.{List, [], ◌∷◌, ◌++◌}
+use mathlib.Core.List.{List, [], ◌++◌}
 use lib.ListN.{length, get_or}
 use Rattle.answers.specs.Tests.{AllHold}
 use Rattle.answers.proofs.TestsLaws.{hold_append}
-use Rattle.boot_page.specs.Building as page
 use Rattle.boot_page.specs.Places.{page_size}
-use Rattle.cmdline.specs.Text.{Text, counted, size_of}
+use Rattle.cmdline.specs.Text.{Text, counted}
 use Rattle.guest.specs.Lent.{memory_tests}
 use Rattle.guest.specs.Maps.{good_map, ranges_of, in_ranges}
 use Rattle.guest.specs.Room.{Grows, memory_of}
@@ -25,7 +24,7 @@ use Rattle.start_info.specs.Writing as start
 use Rattle.start_info.specs.declared.Start.{Start}
 use Rattle.start_info.proofs.PartsLaws.{lies_grows}
 use Rattle.boot.specs.Checks.{limit_of, limit_tests, pieces_tests}
-use Rattle.boot.specs.Entering.{zero_page_tests, pvh_entry, pvh_tests}
+use Rattle.boot.specs.Entering.{pvh_entry, pvh_tests}
 use Rattle.boot.specs.Plan.{extent}
 use Rattle.boot.specs.Pvh as pvh
 use Rattle.boot.specs.Tree as tree

@@ -1,15 +1,14 @@
 -- Laws of a boot into memory that grows, and of a hole of the map: what every entry rests on.
 use Prim.Native.Nat.{ℕ, ◌≤◌, ◌<◌}
-use mathlib.Core.Path.{◌≡◌, sym, ◌∙◌, refl, ap, subst⁻¹}
-use mathlib.Core.Bool.{Bool, true, false}
-use mathlib.Core.List.{List, [], ◌∷◌, ◌++◌}
+use mathlib.Core.Path.{◌≡◌, sym, ◌∙◌, ap, subst⁻¹}
+use mathlib.Core.Bool.{true}
+use mathlib.Core.List.{List, [], ◌∷◌}
 use native.Mathlib.Omega.{arith}
 use native.Mathlib.Decide.{dec_le}
 use lib.ListN.{length}
 use Rattle.answers.specs.Pick.{pick}
 use Rattle.answers.specs.Tests.{Test, AllHold}
 use Rattle.answers.proofs.KeepingLaws.{kept}
-use Rattle.fields.specs.Every.{every}
 use Rattle.fields.proofs.EveryLaws.{every_each, each_every}
 use Rattle.guest.specs.Answers.{is_loaded}
 use Rattle.guest.specs.Lent.{memory_tests}
@@ -33,11 +32,10 @@ use Rattle.loads.specs.Growing.{ForRoom}
 use Rattle.loads.specs.declared.Options.{Options}
 use Rattle.loads.proofs.FormatsLaws as loads
 use Rattle.loads.proofs.MoreMemory as more_memory
-use Rattle.boot.specs.Blobs.{Blob, stream_of, OneOf, first, next}
+use Rattle.boot.specs.Blobs.{Blob, stream_of, first, next}
 use Rattle.boot.specs.Checks.{pieces_tests}
 use Rattle.boot.specs.Kernel.{room_at, kernel_room, kernel_stream}
 use Rattle.boot.specs.Plan.{booted_at, boot_stream, plan_by}
-use Rattle.boot.specs.declared.Answer.{Answer}
 use Rattle.boot.specs.declared.Answer.TheVariants.{Booted, Refused}
 use Rattle.boot.specs.declared.Booted as result
 use Rattle.boot.proofs.AllThere.{HaveRoom}

@@ -1,14 +1,13 @@
 -- Laws of the memory that a kernel uses.
 use Prim.Native.Nat.{ℕ, zero, suc, ◌+◌, ◌≤◌, ◌<◌}
 use mathlib.Core.Path.{◌≡◌, ◌∙◌, refl, ap}
-use mathlib.Core.Bool.{true, ◌&&◌}
+use mathlib.Core.Bool.{true}
 use mathlib.Core.List.{List, []}
 use native.Mathlib.Omega.{arith}
-use lib.ListN.{length, get_or, drop, length-take}
+use lib.ListN.{get_or, drop, length-take}
 use Rattle.answers.specs.Pick.{pick}
 use Rattle.answers.proofs.BoolLaws.{both_held}
-use Rattle.fields.specs.Every.{every}
-use Rattle.fields.specs.Ranges.{apart, Among}
+use Rattle.fields.specs.Ranges.{Among}
 use Rattle.fields.proofs.ApartLaws.{apart_none}
 use Rattle.fields.proofs.EveryLaws.{every_each}
 use Rattle.guest.specs.Answers.{is_loaded}

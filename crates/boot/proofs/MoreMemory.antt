@@ -2,9 +2,9 @@
 -- grows gives an accepted boot the same answer and old guest bytes, the added memory untouched. And no hole is written, whether a
 -- boot is accepted or refused. With placed addresses an added range may give another place, and then it is another boot.
 use Prim.Native.Nat.{ℕ, ◌≤◌}
-use mathlib.Core.Path.{◌≡◌, sym, ◌∙◌, refl, ap, subst⁻¹}
+use mathlib.Core.Path.{◌≡◌, sym, ◌∙◌}
 use mathlib.Core.Bool.{true, false}
-use mathlib.Core.List.{List, [], ◌++◌}
+use mathlib.Core.List.{List, ◌++◌}
 use native.Mathlib.Omega.{arith}
 use borrow.Author.Tests.{le-leb}
 use lib.ListN.{length, get_or}
@@ -26,7 +26,7 @@ use Rattle.loads.specs.declared.Options.{Options}
 use Rattle.boot.specs.Blobs.{Blob}
 use Rattle.boot.specs.Plan.{boot_stream, plan_by}
 use Rattle.boot.specs.declared.Answer.{Answer}
-use Rattle.boot.specs.declared.Answer.TheVariants.{Booted, Refused}
+use Rattle.boot.specs.declared.Answer.TheVariants.{Booted}
 use Rattle.boot.specs.declared.Booted as result
 use Rattle.boot.proofs.AllThere.{HaveRoom}
 use Rattle.boot.proofs.GrowLaws.{boot_inside, plan_kept}

@@ -29,10 +29,12 @@ has_room m b e some = sym (room_for_some m b.0 (length b.1) some) ∙ e
 module _ (m : Memory) (image : List ℕ) (o : Options) (width : ℕ) (rows : List ℕ) (line : Extent) (ramdisk boot : Blob)
     (hold : AllHold (pieces_tests m image o width rows line (range_of ramdisk) (range_of boot))) where
   pub rooms : (b : Blob) → OneOf b (ramdisk ∷ boot ∷ []) → 0 < length b.1 → room m b.0 (length b.1) ≡ true
+  rooms b (next (next x8)) = elim x8 [ ]
   rooms _ first = has_room m ramdisk hold.1.0
   rooms _ (next first) = has_room m boot hold.1.1.0
 
   from_kernel : (b : Blob) → OneOf b (ramdisk ∷ boot ∷ []) → kernel_apart image o (range_of b) ≡ true
+  from_kernel b (next (next x8)) = elim x8 [ ]
   from_kernel _ first = hold.1.1.1.1.0
   from_kernel _ (next first) = hold.1.1.1.1.1.0
 

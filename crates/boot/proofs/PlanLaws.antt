@@ -7,8 +7,8 @@ use Rattle.answers.specs.Tests.{Test, asked_all, AllHold}
 use Rattle.answers.specs.declared.Refusal.{Refusal}
 use Rattle.answers.specs.declared.Gate.{Gate}
 use Rattle.answers.specs.declared.Gate.TheVariants.{Open, Shut}
-use Rattle.guest.specs.Loading.{Plan, Loads, refused_plan, behind_gate, behind_tests}
-use Rattle.guest.specs.Stream.{Poke, pour}
+use Rattle.guest.specs.Loading.{Plan, refused_plan, behind_gate, behind_tests}
+use Rattle.guest.specs.Stream.{Poke}
 use Rattle.guest.specs.declared.Answer as kernel
 use Rattle.guest.specs.declared.Answer.TheVariants as loading
 use Rattle.guest.specs.declared.KernelLoaderResult.{KernelLoaderResult}

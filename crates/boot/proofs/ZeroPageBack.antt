@@ -1,6 +1,6 @@
 -- "The page read back equal": after an accepted boot by zero page, the page in guest memory has each field that was given, and a
 -- reader of it gives the rows, the addresses and the setup header back.
-use Prim.Native.Nat.{ℕ, ◌+◌, ◌-◌, ◌≤◌, ◌<◌}
+use Prim.Native.Nat.{ℕ, ◌-◌, ◌≤◌, ◌<◌}
 use mathlib.Core.Path.{◌≡◌, sym, ◌∙◌, ap, refl}
 use mathlib.Core.List.{List}
 use native.Mathlib.Omega.{arith}
@@ -29,7 +29,7 @@ use Rattle.loads.specs.Formats as kernel
 use Rattle.loads.specs.declared.Options.{Options}
 use Rattle.boot.specs.Blobs.{first, next, Holds}
 use Rattle.boot.specs.Plan.{boot_stream}
-use Rattle.boot.specs.ZeroPage.{setup_by, addresses_of, page_bytes, tests, blobs_of, entry, Boots}
+use Rattle.boot.specs.ZeroPage.{setup_by, addresses_of, tests, blobs_of, entry, Boots}
 use Rattle.boot.specs.declared.Answer.{Answer}
 use Rattle.boot.specs.declared.Answer.TheVariants.{Booted}
 use Rattle.boot.specs.declared.Booted as result

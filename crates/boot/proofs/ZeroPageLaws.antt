@@ -1,6 +1,6 @@
 -- Laws of a boot by zero page, as code works it out.
-use Prim.Native.Nat.{ℕ, zero, suc, ◌+◌, ◌-◌, ◌≤◌, ◌<◌}
-use mathlib.Core.Path.{◌≡◌, sym, ◌∙◌, refl, ap, subst}
+use Prim.Native.Nat.{ℕ, zero, suc, ◌+◌, ◌-◌, ◌≤◌}
+use mathlib.Core.Path.{◌≡◌, sym, ◌∙◌, refl, ap}
 use mathlib.Core.Bool.{true}
 use mathlib.Core.List.{List, [], ◌∷◌, ◌++◌, append-nil}
 use native.Mathlib.Omega.{arith}
@@ -11,13 +11,12 @@ use lib.Seq.{sets, take_all}
 use Rattle.answers.specs.Pick.{pick}
 use Rattle.answers.specs.Tests.{Test, asked_all, is_open, AllHold}
 use Rattle.answers.specs.declared.Gate.{Gate}
-use Rattle.answers.specs.declared.Gate.TheVariants.{Open, Shut}
+use Rattle.answers.specs.declared.Gate.TheVariants.{Open}
 use Rattle.answers.specs.declared.Refusal.{Refusal}
 use Rattle.answers.proofs.TestsLaws.{all_open}
 use Rattle.boot_page.specs.Building as page
 use Rattle.boot_page.specs.Places.{page_size}
 use Rattle.boot_page.specs.declared.Addresses.{Addresses}
-use Rattle.boot_page.proofs.PartsLaws.{page_length}
 use Rattle.cmdline.specs.Text.{Text, size_of, counted}
 use Rattle.cmdline.specs.Writing.{bare}
 use Rattle.fields.proofs.CopyingLaws.{sets_behind}

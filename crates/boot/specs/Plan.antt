@@ -8,7 +8,6 @@ use Rattle.guest.specs.Loading.{Plan, refused_plan, behind_tests}
 use Rattle.guest.specs.declared.Answer as kernel
 use Rattle.guest.specs.declared.Answer.TheVariants as loading
 use Rattle.guest.specs.declared.Extent.{Extent}
-use Rattle.guest.specs.declared.GuestAddress.{GuestAddress}
 use Rattle.guest.specs.declared.KernelLoaderResult.{KernelLoaderResult}
 use Rattle.guest.specs.Stream.{Poke}
 use Rattle.loads.specs.declared.Options.{Options}

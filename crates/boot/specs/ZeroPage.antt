@@ -1,5 +1,5 @@
 -- A boot by zero page: a bzImage, or an ELF kernel by its 64-bit entry; the line, a ramdisk, and the page that names them.
-use Rattle.std.specs.Prelude.{ℕ, ◌+◌, Bool, true, List, [], ◌∷◌, ◌++◌, leb, eqb, length}
+use Rattle.std.specs.Prelude.{ℕ, Bool, true, List, [], ◌∷◌, ◌++◌, leb, eqb, length}
 use Rattle.answers.specs.Pick.{pick}
 use Rattle.answers.specs.Tests.{Test}
 use Rattle.answers.specs.declared.Refusal.TheVariants.{RamdiskTooHigh}

@@ -18,7 +18,7 @@ use start_info::Start;
 
 // The addresses of line, ramdisk and start block, and that of the RSDP, 0 if there is none. The modules and the memory map
 // follow the block.
-#[derive(Drop)]
+#[derive(Clone, Copy)]
 pub struct Pvh {
     pub line: GuestAddress,
     pub ramdisk: GuestAddress,

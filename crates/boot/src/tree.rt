@@ -13,7 +13,7 @@ use guest::{GuestAddress, ImagePlace, Map, Memory, copying};
 use loads::{Format, Options, formats};
 
 // The addresses of tree and ramdisk, and the offset in the tree at which the line is.
-#[derive(Drop)]
+#[derive(Clone, Copy)]
 pub struct Tree {
     pub tree: GuestAddress,
     pub ramdisk: GuestAddress,

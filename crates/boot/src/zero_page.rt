@@ -17,7 +17,7 @@ use guest::{Extent, GuestAddress, ImagePlace, Map, Memory, copying};
 use loads::{Format, Options, formats};
 
 // The addresses of line, ramdisk and page, all below 4 GiB; and whether the kernel is entered in 64-bit mode.
-#[derive(Drop)]
+#[derive(Clone, Copy)]
 pub struct ZeroPage {
     pub line: u32,
     pub ramdisk: u32,

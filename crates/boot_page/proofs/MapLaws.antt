@@ -1,12 +1,11 @@
 -- Laws of the memory map's test, as the code asks it.
-use Prim.Native.Nat.{ℕ, suc, ◌+◌, ◌-◌, ◌*◌, ◌≤◌, ◌<◌}
-use mathlib.Core.Path.{◌≡◌, refl, ap, sym, ◌∙◌}
+use Prim.Native.Nat.{ℕ, suc, ◌-◌, ◌≤◌, ◌<◌}
+use mathlib.Core.Path.{◌≡◌, ap, sym, ◌∙◌}
 use mathlib.Core.Bool.{Bool, true, false, ◌&&◌}
 use mathlib.Core.List.{List}
 use native.Mathlib.Omega.{arith}
 use borrow.Author.Tests.{lt-ltb, le-ltb}
 use lib.Dec.{ltb}
-use lib.ListN.{length, get_or}
 use Rattle.fields.specs.Ranges.{fits64}
 use Rattle.fields.specs.Every.{every}
 use Rattle.fields.proofs.EveryLaws.{both_held, left_failed, right_failed, every_next, every_each, each_every, every_fails}

@@ -1,15 +1,14 @@
 -- The sentence "a row empty, with address + size of 2^64 or more, or overlapping an earlier one": the rows pass exactly where no row is
 -- empty, each ends below 2^64, and no address is among two of them, whichever comes first.
 use Prim.Native.Nat.{ℕ, ◌+◌, ◌^◌, ◌≤◌, ◌<◌}
-use mathlib.Core.Path.{◌≡◌, refl, sym, ap, ◌∙◌}
-use mathlib.Core.Bool.{Bool, true, false, ◌&&◌}
+use mathlib.Core.Path.{◌≡◌}
+use mathlib.Core.Bool.{true, ◌&&◌}
 use mathlib.Core.List.{List}
 use native.Mathlib.Omega.{arith}
 use native.Mathlib.Decide.{dec_le}
 use borrow.Author.Tests.{lt-ltb, ltb-true}
 use lib.Dec.{ltb}
-use lib.ListN.{length, get_or}
-use Rattle.fields.specs.Ranges.{top64, fits64, Among}
+use Rattle.fields.specs.Ranges.{top64, fits64}
 use Rattle.fields.specs.Every.{every}
 use Rattle.fields.proofs.RangesLaws.{within_sum, sum_within}
 use Rattle.fields.proofs.ApartLaws.{apart_none, none_apart}

@@ -1,8 +1,8 @@
 -- The sentence "page otherwise zero, returned header at 1F1 hex, loader type FF hex at 210, command line address at 228, ramdisk address
 -- and size at 218 and 21C, memory map count at 1E8, rows from 2D0": each field of a page that was built stands at its place, read by the
 -- same definitions as any page is, and every other byte is zero.
-use Prim.Native.Nat.{ℕ, ◌+◌, ◌*◌, ◌/◌, ◌%◌, ◌^◌, ◌≤◌, ◌<◌, min}
-use mathlib.Core.Path.{◌≡◌, refl, sym, ap, subst, ◌∙◌}
+use Prim.Native.Nat.{ℕ, ◌+◌, ◌*◌, ◌%◌, ◌≤◌, ◌<◌}
+use mathlib.Core.Path.{◌≡◌, sym, ap, subst, ◌∙◌}
 use mathlib.Core.Bool.{true}
 use mathlib.Core.List.{List, [], ◌∷◌, ◌++◌}
 use native.Mathlib.Omega.{arith}
@@ -10,11 +10,11 @@ use native.Mathlib.Nat.{div-add-mod'}
 use native.Mathlib.Decide.{dec_le}
 use lib.ListN.{length, get_or, take, replicate, length-take, length-replicate, get_or-replicate, get_or-eq_default}
 use lib.Seq.{sets, length-sets, get_or-take}
-use Rattle.fields.specs.Numbers.{le, le_bytes, HasBytes}
-use Rattle.fields.specs.Rows.{field_width, rows_bytes, rows_numbers, rows_length, row_length, are_rows}
+use Rattle.fields.specs.Numbers.{le_bytes, HasBytes}
+use Rattle.fields.specs.Rows.{field_width, rows_bytes, rows_length, row_length, are_rows}
 use Rattle.fields.proofs.CopyingLaws.{sets_outside}
 use Rattle.fields.proofs.HasBytesLaws.{stored_at}
-use Rattle.fields.proofs.NumbersLaws.{le_bytes_lem, length_le_bytes}
+use Rattle.fields.proofs.NumbersLaws.{le_bytes_lem}
 use Rattle.fields.proofs.RowsLaws.{rows_length_lem}
 use Rattle.fields.proofs.RowsBack.{rows_back}
 use Rattle.fields.proofs.WholeRows.{whole_rows}
@@ -23,7 +23,7 @@ use Rattle.bzimage.specs.SetupHeader.{header_size}
 use Rattle.boot_page.specs.declared.Addresses.{Addresses}
 use Rattle.boot_page.specs.Places.{page_size, count_at, header_at, loader_type_at, ramdisk_at, ramdisk_size_at, command_line_at, rows_at, undefined_loader}
 use Rattle.boot_page.specs.Map.{row_widths, most_rows, count_of}
-use Rattle.boot_page.specs.Building.{Part, put_parts, header_parts, address_parts, map_parts, parts_of, filled, page_of}
+use Rattle.boot_page.specs.Building.{Part, put_parts, address_parts, map_parts, parts_of, filled}
 use Rattle.boot_page.specs.Page.{Fit32, NotSet, Elsewhere, IsPage}
 use Rattle.boot_page.proofs.PartsLaws.{length_parts, Uncovered, by_none, by_one, uncovered_stays, Clear, of_none, above, number_uncovered, number_below, number_above, number_stands, byte_of_bytes}
 

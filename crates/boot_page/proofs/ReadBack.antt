@@ -1,7 +1,7 @@
 -- The sentence "a reader .. gives back the rows, the addresses and the header, its loader type, command line and ramdisk fields as set
 -- here": of a page that was built.
-use Prim.Native.Nat.{ℕ, zero, suc, ◌+◌, ◌-◌, ◌*◌, ◌≤◌, ◌<◌, min}
-use mathlib.Core.Path.{◌≡◌, refl, sym, ap, subst⁻¹, ◌∙◌}
+use Prim.Native.Nat.{ℕ, zero, suc, ◌+◌, ◌-◌, ◌*◌, ◌≤◌, min}
+use mathlib.Core.Path.{◌≡◌, refl, ap, subst⁻¹, ◌∙◌}
 use mathlib.Core.List.{List}
 use native.Mathlib.Omega.{arith}
 use borrow.Author.Tests.{leb-true, le-leb, eq-eqb}
@@ -19,8 +19,8 @@ use Rattle.boot_page.specs.declared.Addresses.{Addresses}
 use Rattle.boot_page.specs.declared.Answer.TheVariants.{Read}
 use Rattle.boot_page.specs.declared.Outcome.{Outcome}
 use Rattle.boot_page.specs.Places.{page_size, header_at, loader_type_at, ramdisk_at, ramdisk_size_at, command_line_at, rows_at}
-use Rattle.boot_page.specs.Map.{row_widths, most_rows, count_of, count_in, rows_in}
-use Rattle.boot_page.specs.Building.{tests, page_of, Builds}
+use Rattle.boot_page.specs.Map.{row_widths, most_rows, count_of, count_in}
+use Rattle.boot_page.specs.Building.{tests, Builds}
 use Rattle.boot_page.specs.Reading.{read_tests, addresses_in, standing_in, Reads}
 use Rattle.boot_page.specs.Page.{Fit32, IsPage, SetHeader}
 use Rattle.boot_page.proofs.PageSet.{whole_count, page_set}

@@ -3,7 +3,6 @@
 -- it has its size and its count is not over 128, and then what stands there is told, whoever wrote it.
 use Prim.Native.Nat.{ℕ}
 use mathlib.Core.Path.{◌≡◌, sym, ◌∙◌, refl, ap, subst}
-use mathlib.Core.Bool.{true, false}
 use mathlib.Core.List.{List, [], ◌∷◌}
 use native.Mathlib.Omega.{arith}
 use lib.ListN.{length}
@@ -119,3 +118,4 @@ module _ (page before : List ℕ) {r : Outcome} {after : List ℕ} (reads : Read
       by_test : FirstFails refusal read_row → P refusal
       by_test (here f is) = subst P is size
       by_test (later h (here f is)) = subst P is count
+      by_test (later h (later _ x9)) = elim x9 [ ]

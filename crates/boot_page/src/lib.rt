@@ -1,4 +1,6 @@
 // The boot page: the 4,096-byte zero page of the Linux boot documents, built and read.
+#![tactic(auto)]
+
 ghost use Rattle.std.specs.Prelude.{◌≡◌};
 ghost use Rattle.boot_page.specs.Building.{gate_of, Builds};
 ghost use Rattle.boot_page.specs.Places.{page_size};
@@ -12,7 +14,7 @@ mod places;
 mod reading;
 
 // The command line's address, and the ramdisk's address and size: each a field of four bytes.
-#[derive(Drop)]
+#[derive(Clone, Copy)]
 pub struct Addresses {
     pub command_line: u32,
     pub ramdisk: u32,
@@ -20,20 +22,20 @@ pub struct Addresses {
 }
 
 // What a page holds beside its rows and its setup header: how many rows, and the addresses.
-#[derive(Drop)]
+#[derive(Clone, Copy)]
 pub struct Page {
     pub rows: u64,
     pub addresses: Addresses,
 }
 
-#[derive(Drop)]
+#[derive(Clone, Copy)]
 pub enum Answer {
     Read(Page),
     Refused(Refusal),
 }
 
 // The answer, and the setup header. Beside a refusal the header is all zero.
-#[derive(Drop)]
+#[derive(Clone, Copy)]
 pub struct Outcome {
     pub answer: Answer,
     pub setup_header: [u8; 123],

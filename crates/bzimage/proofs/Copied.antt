@@ -1,6 +1,6 @@
 -- The sentence "the image bytes from the setup size on are the kernel, copied to the load address, all else untouched": after an accepted
 -- load each byte of guest memory is the kernel's byte that covers it, or as it was.
-use Prim.Native.Nat.{ℕ, ◌+◌, ◌-◌, ◌<◌}
+use Prim.Native.Nat.{ℕ, ◌+◌, ◌<◌}
 use mathlib.Core.Path.{◌≡◌, sym, ◌∙◌, ap}
 use mathlib.Core.Bool.{true}
 use mathlib.Core.List.{List}

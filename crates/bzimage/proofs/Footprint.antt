@@ -1,7 +1,7 @@
 -- "Two images of one length that hold the same bytes in the setup header have the same plan": the same answer, the same setup header and the same
 -- part, whatever the rest of either image holds. So a caller may plan with those bytes only, and copy the part from the whole image (`loads`, Footprint).
 use Prim.Native.Nat.{ℕ, zero, suc, ◌+◌, ◌≤◌}
-use mathlib.Core.Path.{◌≡◌, sym, ◌∙◌, refl, ap}
+use mathlib.Core.Path.{◌≡◌, refl, ap}
 use mathlib.Core.List.{List}
 use native.Mathlib.Omega.{arith}
 use Rattle.fields.specs.Agreement.{Agree}

@@ -1,6 +1,6 @@
 -- The sentence "the returned header holds the load address's low 32 bits in `code32_start`, all else as read", byte by byte, with the
 -- bytes past the image as 0. `header::header_with` answers this header.
-use Prim.Native.Nat.{ℕ, zero, suc, ◌+◌, ◌-◌, ◌<◌}
+use Prim.Native.Nat.{ℕ, zero, suc, ◌+◌, ◌<◌}
 use mathlib.Core.Path.{◌≡◌, ◌∙◌, refl, ap}
 use mathlib.Core.List.{List}
 use native.Mathlib.Omega.{arith}

@@ -34,6 +34,7 @@ total_next (suc i) (n ∷ ns) = ap (λ (m : ℕ). n + m) (total_next i ns) ∙ o
 
 total_grows : (i k : ℕ) (ns : List ℕ) → i ≤ k → total (take i ns) ≤ total (take k ns)
 unfolding total
+total_grows (suc i) zero ns h = elim h [ ]
 total_grows zero k ns h = omega arith
 total_grows (suc i) (suc k) [] h = omega arith
 total_grows (suc i) (suc k) (n ∷ ns) h = let rest = total_grows i k ns (omega arith) in omega arith

@@ -1,25 +1,24 @@
 -- "The whole_slice map, or no range over an empty slice, gives today's answers", of a bzImage load: over that map the plan is the one of a slice
 -- with no map, whatever the image and the options, so every answer, every header and every byte is the same.
-use Prim.Native.Nat.{ℕ, ◌<◌}
+use Prim.Native.Nat.{ℕ}
 use mathlib.Core.Path.{◌≡◌, refl}
 use mathlib.Core.Bool.{Bool, true, false}
-use mathlib.Core.List.{List, [], ◌∷◌, ◌++◌}
+use mathlib.Core.List.{List, ◌++◌}
 use native.Mathlib.Omega.{arith}
 use borrow.Author.Tests.{eqb-false}
 use lib.Dec.{eqb}
 use lib.ListN.{length}
 use Rattle.answers.specs.Pick.{pick}
-use Rattle.answers.specs.Tests.{Test, asked}
+use Rattle.answers.specs.Tests.{asked}
 use Rattle.answers.specs.declared.Gate.TheVariants.{Open}
-use Rattle.answers.specs.declared.Refusal.TheVariants.{SliceTooLong, ReadBzImageCompressedKernel}
-use Rattle.fields.specs.Ranges.{lies_within}
-use Rattle.guest.specs.Loading.{Plan, behind_tests}
+use Rattle.answers.specs.declared.Refusal.TheVariants.{SliceTooLong}
+use Rattle.guest.specs.Loading.{behind_tests}
 use Rattle.guest.specs.Room.{whole_of}
 use Rattle.guest.specs.Sizes.{allowed}
 use Rattle.guest.specs.declared.Given.{Given}
 use Rattle.guest.proofs.RoomLaws.{whole_room, whole_lent}
 use Rattle.bzimage.specs.Kernel.{kernel_size, load_of}
-use Rattle.bzimage.specs.Plan.{image_tests, room_for, room_tests, kernel_plan, plan_of}
+use Rattle.bzimage.specs.Plan.{image_tests, room_for, room_tests, plan_of}
 use Rattle.bzimage.specs.WholeSlice.{room_within, plan_within}
 
 room_whole : (size address n : ℕ) → room_for (whole_of size) address n ≡ room_within size address n

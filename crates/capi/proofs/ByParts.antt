@@ -1,7 +1,7 @@
 -- "Copied one after the other, the parts leave guest memory as the load does", with the numbers as `rekusoyen_raw_part` reports them: a part of no bytes, all
 -- of whose numbers are 0, is copied as it would be with its own.
 use Prim.Native.Nat.{ℕ}
-use mathlib.Core.Path.{◌≡◌, refl, sym, ◌∙◌}
+use mathlib.Core.Path.{◌≡◌, refl, ◌∙◌}
 use mathlib.Core.List.{List}
 use borrow.Author.Tests.{eqb-true}
 use lib.Dec.{eqb}

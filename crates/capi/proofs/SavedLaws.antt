@@ -2,7 +2,7 @@
 use Prim.Native.Nat.{ℕ, zero, suc, ◌+◌}
 use mathlib.Core.Path.{◌≡◌, refl, sym, ap, ◌∙◌}
 use mathlib.Core.Bool.{true}
-use mathlib.Core.List.{List, [], ◌∷◌, ◌++◌}
+use mathlib.Core.List.{List, ◌++◌}
 use native.Mathlib.Omega.{arith}
 use lib.Dec.{leb}
 use lib.ListN.{length, get_or}
@@ -18,7 +18,7 @@ use Rattle.guest.specs.declared.Memory.{Memory}
 use Rattle.loads.specs.declared.Stage.{Stage}
 use Rattle.loads.specs.declared.Stage.TheVariants.{Fresh, Copying, Done}
 use Rattle.capi.specs.Options.{given_by}
-use Rattle.capi.specs.Saved.{numbers_from, stage_code, stage_of, given_code, head_of, with_kept, map_in, kept_in, kept_tests, answer_place}
+use Rattle.capi.specs.Saved.{numbers_from, stage_code, stage_of, given_code, head_of, with_kept, kept_in, kept_tests, answer_place}
 use Rattle.capi.specs.declared.progress.Kept.{Kept}
 use Rattle.capi.proofs.ListsLaws.{from_behind, from_front_of, laid, get_d_fourth}
 use Rattle.capi.proofs.NumbersLaws.{length_numbers}

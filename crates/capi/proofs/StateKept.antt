@@ -2,19 +2,16 @@
 -- of `loads`.
 use Prim.Native.Nat.{ℕ, ◌+◌}
 use mathlib.Core.Path.{◌≡◌, refl, sym, ap, subst, ◌∙◌}
-use mathlib.Core.Bool.{Bool, true}
+use mathlib.Core.Bool.{true}
 use mathlib.Core.List.{List, [], ◌∷◌, ◌++◌}
 use native.Mathlib.Omega.{arith}
 use lib.Dec.{leb, eqb}
 use lib.ListN.{length, get_or}
-use lib.Seq.{sets}
 use borrow.Author.Tests.{eq-eqb}
 use Rattle.answers.specs.Pick.{pick}
-use Rattle.answers.specs.Catalogue.{number_of}
 use Rattle.answers.specs.Tests.{asked_all, AllHold}
 use Rattle.answers.specs.declared.Gate.{Gate}
 use Rattle.answers.specs.declared.Gate.TheVariants.{Open, Shut}
-use Rattle.answers.specs.declared.Refusal.{Refusal}
 use Rattle.answers.specs.declared.Refusal.TheVariants.{BadList, NoRoom}
 use Rattle.answers.proofs.PickLaws.{pick_with}
 use Rattle.answers.proofs.TestsLaws.{all_open, hold_append}
@@ -22,16 +19,14 @@ use Rattle.guest.specs.Answers.{is_loaded, pvh_code, pvh_address, pvh_place, pvh
 use Rattle.guest.specs.Loading.{Plan}
 use Rattle.guest.specs.Maps.{map_of}
 use Rattle.guest.specs.Room.{memory_of}
-use Rattle.guest.specs.Stream.{pour}
 use Rattle.guest.specs.declared.Answer.{Answer}
 use Rattle.guest.specs.declared.Answer.TheVariants.{Loaded, Refused}
-use Rattle.guest.specs.declared.Map.{Map}
 use Rattle.guest.specs.declared.Portion.{Portion}
 use Rattle.guest.specs.declared.PvhBootCapability.{PvhBootCapability}
 use Rattle.guest.specs.declared.PvhBootCapability.TheVariants.{PvhEntryPresent, PvhEntryNotPresent, PvhEntryIgnored}
 use Rattle.loads.specs.Calls.{begun_with, moved_to, step_tests}
 use Rattle.loads.specs.Formats.{answer_of}
-use Rattle.loads.specs.Steps.{fresh_state, started_state, unchanged, stays, reply_after, stepped_to, first_step, by_stage, if_open, step_plan}
+use Rattle.loads.specs.Steps.{fresh_state, started_state, unchanged, reply_after, stepped_to, first_step, by_stage, if_open, step_plan}
 use Rattle.loads.specs.declared.Format.{Format}
 use Rattle.loads.specs.declared.Format.TheVariants.{Elf, BzImage, Arm64}
 use Rattle.loads.specs.declared.Options.{Options}
@@ -42,11 +37,10 @@ use Rattle.loads.specs.declared.steps.Reply.TheVariants as reply
 use Rattle.loads.specs.declared.steps.State.{State}
 use Rattle.loads.specs.declared.steps.Stepped.{Stepped}
 use Rattle.capi.specs.Options.{format_code, format_of, format_tests}
-use Rattle.capi.specs.Refusals.{refusal_of, is_known}
+use Rattle.capi.specs.Refusals.{is_known}
 use Rattle.capi.specs.Saved.{kept_tests}
-use Rattle.capi.specs.States.{answer_numbers, pvh_of, answer_from, answer_in, state_size, kept_of, tail_of, with_state, state_from, state_in, state_tests, BeginCall, step_gate, plan_in, reply_number, told_numbers, state_after, StepCall}
+use Rattle.capi.specs.States.{answer_numbers, pvh_of, answer_from, answer_in, state_size, kept_of, tail_of, with_state, state_from, state_in, state_tests, BeginCall, step_gate, plan_in, state_after, StepCall}
 use Rattle.capi.specs.StateKept.{Saves, StepsFrom}
-use Rattle.capi.specs.Values.{number_behind, left_behind}
 use Rattle.capi.specs.declared.progress.Kept.{Kept}
 use Rattle.capi.proofs.SavedLaws as kept
 use Rattle.capi.proofs.SavedLaws.{Sixteen, map_sixteen, kept_sixteen}

@@ -9,7 +9,7 @@ use guest::{Given, Map, Memory, addresses};
 use loads::{Progress, Stage};
 
 // How far a load is, and the addresses that it was made with.
-#[derive(Drop)]
+#[derive(Clone, Copy)]
 pub(crate) struct Kept {
     pub progress: Progress,
     pub kernel_offset: Given,

@@ -1,4 +1,6 @@
 // What a monitor links: a job of the desk program, its bytes in, its text out.
+#![tactic(auto)]
+
 ghost use Rattle.capi_jobs.specs.Jobs.{JobCall};
 
 use answers::Refusal;

@@ -2,7 +2,7 @@
 -- (`insert_stays` and its like, `new_stays`, `try_from_stays`). The texts that they then hold are those of the call's plan, or, where it is
 -- refused, those that they held (`call_texts`).
 use Prim.Native.Nat.{ℕ, ◌≤◌}
-use mathlib.Core.Path.{◌≡◌, refl, ap, ◌∙◌, subst, subst⁻¹}
+use mathlib.Core.Path.{◌≡◌, refl, ap, ◌∙◌, subst⁻¹}
 use mathlib.Core.List.{List, ◌∷◌}
 use native.Mathlib.Omega.{arith}
 use lib.ListN.{length}

@@ -1,5 +1,5 @@
 -- Each function permits one outcome.
-use mathlib.Core.Path.{◌≡◌, refl}
+use mathlib.Core.Path.{refl}
 use Rattle.answers.specs.Outcome.{OneOutcome}
 use Rattle.answers.proofs.Outcomes.{meet, first}
 use Rattle.capi.proofs.Outcomes.{both, over}

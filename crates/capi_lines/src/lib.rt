@@ -1,4 +1,6 @@
 // What a monitor links: the kernel command line under C names, in bytes that the caller lends.
+#![tactic(auto)]
+
 ghost use Rattle.std.specs.Prelude.{◌≡◌};
 ghost use Rattle.cmdline.specs.Insertion.{insert, insert_multiple, insert_str, insert_init_args};
 ghost use Rattle.cmdline.specs.Device.{add_device};

@@ -27,7 +27,7 @@ pub(crate) const BOOT: usize = 24;
 pub(crate) const INIT: usize = 24 + LIMIT;
 
 // The three numbers of a line, and how the tests of its bytes end.
-#[derive(Drop)]
+#[derive(Clone, Copy)]
 pub(crate) struct Header {
     pub gate: Gate,
     pub boots: usize,

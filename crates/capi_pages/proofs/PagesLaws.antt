@@ -11,7 +11,7 @@ use Rattle.answers.specs.Catalogue.{number_of}
 use Rattle.answers.specs.declared.Refusal.TheVariants.{NoRoom}
 use Rattle.answers.specs.declared.Gate.{Gate}
 use Rattle.answers.specs.declared.Gate.TheVariants.{Open, Shut}
-use Rattle.fields.proofs.EveryLaws.{both_held, left_failed, right_failed, left_holds}
+use Rattle.fields.proofs.EveryLaws.{left_failed, right_failed, left_holds}
 use Rattle.bzimage.specs.SetupHeader.{header_size}
 use Rattle.boot_page.specs.declared.Addresses.{Addresses}
 use Rattle.boot_page.specs.declared.Outcome.{Outcome}

@@ -3,7 +3,6 @@ use Rattle.std.specs.Prelude.{ℕ, ◌≡◌, List, eqb, length}
 use Rattle.fields.specs.Rows.{field_width, rows_numbers}
 use Rattle.guest.specs.Room.{memory_of}
 use Rattle.guest.specs.Stream.{pour}
-use Rattle.guest.specs.declared.GuestAddress.{GuestAddress}
 use Rattle.guest.specs.declared.Map.{Map}
 use Rattle.start_info.specs.declared.Start.{Start}
 use Rattle.start_info.specs.Answers.{gate_number}

@@ -16,7 +16,6 @@ use Rattle.cmdline.specs.declared.Reply.{Reply}
 use Rattle.cmdline.specs.Limit.{limit}
 use Rattle.cmdline.specs.Text.{Text, counted, boot_gap, init_gap, boot_room, init_room}
 use Rattle.cmdline.specs.Insertion.{answer_of, with_boot, with_init}
-use Rattle.cmdline.specs.Writing.{whole}
 use Rattle.slugs.specs.Stored.{Stored}
 use Rattle.cmdline.specs.Held.{text_of, holding, clamped_line, settled_reply}
 use Rattle.slugs.proofs.ListLaws.{sets_own, sets_same}

@@ -1,6 +1,6 @@
 -- An accepted `insert` puts exactly key, equals sign and value after what stood there, with the separator as it is counted:
 -- `inserted_pair`. The same of the struct: `inserted_line` (file HeldTexts).
-use Prim.Native.Nat.{ℕ, ◌+◌}
+use Prim.Native.Nat.{ℕ}
 use mathlib.Core.Path.{◌≡◌, refl}
 use mathlib.Core.List.{List, ◌++◌}
 use lib.ListN.{length}

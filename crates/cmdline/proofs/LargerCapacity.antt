@@ -41,6 +41,7 @@ same_gate : (ts ts' : List Test) → Widens Calls.ForRoom ts ts' → (Calls.Refu
 same_gate ts ts' w none = kept (ShutBy Calls.ForRoom) (row_keeps Calls.ForRoom w) (λ shut. none (told (asked_all Open ts) shut))
   where
     told : (g : Gate) → ShutBy Calls.ForRoom g → Calls.RefusedForRoom (Calls.answered (answer_of g))
+    told Open x' = elim x' [ ]
     told (Shut r) (shut_by f) = Calls.call_refused f
 
 -- a call by a plan: where its tests widen and its texts are the same but for the capacity

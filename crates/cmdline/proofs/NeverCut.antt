@@ -1,6 +1,6 @@
 -- An insertion into a caller's buffer is never accepted with a text that was cut: the length that is returned is that
 -- of the text before it, the space and the slug, it lies within the buffer, and the buffer holds that text.
-use Prim.Native.Nat.{ℕ, ◌+◌, ◌≤◌, min}
+use Prim.Native.Nat.{ℕ, ◌+◌, ◌≤◌}
 use mathlib.Core.Path.{◌≡◌, refl, sym, ap, ◌∙◌}
 use mathlib.Core.Bool.{Bool, true, false}
 use mathlib.Core.List.{List, ◌++◌}

@@ -14,7 +14,7 @@ use guest::GuestAddress;
 use slugs::{buffers, bytes, keys, lists, trimming, values};
 
 // What an insertion says: the length of the text after it, or the refusal.
-#[derive(Drop)]
+#[derive(Clone, Copy)]
 pub enum Appended {
     Length(usize),
     Refused(Refusal),

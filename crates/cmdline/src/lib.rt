@@ -7,6 +7,8 @@
 // SPDX-License-Identifier: Apache-2.0 AND BSD-3-Clause
 //
 // A kernel command line: built word by word, read from a text, written with its zero, compared.
+#![tactic(auto)]
+
 ghost use Rattle.std.specs.Prelude.{◌≡◌};
 ghost use Rattle.cmdline.specs.Insertion.{insert_str, insert_init_args, insert, insert_multiple};
 ghost use Rattle.cmdline.specs.Device.{add_device};
@@ -32,7 +34,7 @@ pub const LIMIT: usize = 16384;
 
 // The two texts, each at the start of its buffer with zeros after it, and the greatest counted size. A length or a capacity above
 // LIMIT, which no function here makes, counts as LIMIT.
-#[derive(Drop)]
+#[derive(Clone, Copy)]
 pub struct Cmdline {
     pub boot: [u8; LIMIT],
     pub boots: usize,
@@ -42,28 +44,28 @@ pub struct Cmdline {
 }
 
 // What a call says.
-#[derive(Drop)]
+#[derive(Clone, Copy)]
 pub enum Answer {
     Accepted,
     Refused(Refusal),
 }
 
 // What a call says, and the line after it: unchanged where it is refused. A making that is refused hands back an empty line of capacity 0.
-#[derive(Drop)]
+#[derive(Clone, Copy)]
 pub struct Reply {
     pub answer: Answer,
     pub line: Cmdline,
 }
 
 // What writing says: how many bytes, the zero counted, or the refusal.
-#[derive(Drop)]
+#[derive(Clone, Copy)]
 pub enum Written {
     Bytes(usize),
     Refused(Refusal),
 }
 
 // The platform device ID of a device, if it has one.
-#[derive(Drop)]
+#[derive(Clone, Copy)]
 pub enum DeviceId {
     Nothing,
     Number(u32),

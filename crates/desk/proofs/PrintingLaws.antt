@@ -1,10 +1,9 @@
 -- Laws of the text that a job prints, put part by part.
 use Prim.Native.Nat.{ℕ, min}
-use mathlib.Core.Path.{◌≡◌, refl, sym, ap, ◌∙◌}
-use mathlib.Core.List.{List, [], ◌∷◌, ◌++◌, append_assoc}
+use mathlib.Core.Path.{◌≡◌, ap, ◌∙◌}
+use mathlib.Core.List.{List, [], ◌∷◌, ◌++◌}
 use native.Mathlib.Omega.{arith}
 use lib.ListN.{length, replicate, length-replicate}
-use lib.Seq.{sets}
 use Rattle.answers.specs.Catalogue.{number_of}
 use Rattle.answers.specs.declared.Refusal.{Refusal}
 use Rattle.cmdline.specs.Digits.{decimal}

@@ -1,5 +1,5 @@
 -- Laws of the table of contents, as the code asks them.
-use Prim.Native.Nat.{ℕ, ◌+◌, ◌-◌, ◌≤◌, ◌<◌, ◌^◌, min}
+use Prim.Native.Nat.{ℕ, ◌+◌, ◌-◌, min}
 use mathlib.Core.Path.{◌≡◌, ap, ◌∙◌}
 use mathlib.Core.Bool.{true, false}
 use mathlib.Core.List.{List}
@@ -13,7 +13,7 @@ use Rattle.fields.specs.Numbers.{ReadAs}
 use Rattle.guest.specs.Stream.{bytes_at}
 use Rattle.guest.proofs.PartLaws.{take_clipped, drop_clipped}
 use Rattle.desk.specs.declared.table.Row.{Row}
-use Rattle.desk.specs.Table.{count_of, row_of, RowRead, is_image, kinds_good, one_placed, two_placed, places_good, image_row, line_row, first_row, second_row}
+use Rattle.desk.specs.Table.{row_of, RowRead, is_image, kinds_good, one_placed, two_placed, places_good, image_row, line_row, first_row, second_row}
 
 -- three numbers read one after the other are a row
 pub row_read : (job : List ℕ) (at : ℕ) {k p s : ℕ} → ReadAs 4 job at k → ReadAs 4 job (at + 4) p → ReadAs 4 job (at + 8) s

@@ -18,6 +18,7 @@ use Rattle.desk.proofs.TableLaws.{places_one, places_two}
 
 -- whichever rule is broken, the refusal is the same
 pub only_bad_job : {refusal : Refusal} (job : List ℕ) → FirstFails refusal (job_tests job) → refusal ≡ BadJob
+only_bad_job {refusal = refusal} job (later t (later t' (later t'' (later _ x15)))) = elim x15 [ ]
 only_bad_job job (here f e) = sym e
 only_bad_job job (later t (here f e)) = sym e
 only_bad_job job (later t (later t' (here f e))) = sym e

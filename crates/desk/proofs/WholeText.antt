@@ -7,7 +7,6 @@ use lib.Dec.{ltb}
 use lib.ListN.{length, take, drop, replicate, length-append, length-replicate}
 use lib.Seq.{sets, sets-eq, take-append_seam}
 use Rattle.answers.specs.Catalogue.{number_of}
-use Rattle.answers.specs.Pick.{pick}
 use Rattle.answers.proofs.PickLaws.{pick_with}
 use Rattle.cmdline.specs.Digits.{digit, digits_before, decimal}
 use Rattle.guest.specs.declared.Answer.{Answer}

@@ -2,7 +2,7 @@
 use Prim.Native.Nat.{ℕ}
 use mathlib.Core.Path.{◌≡◌, refl, sym, ap, ◌∙◌, subst, subst⁻¹}
 use mathlib.Core.Bool.{true, false}
-use mathlib.Core.List.{List, []}
+use mathlib.Core.List.{List}
 use lib.ListN.{length, replicate, length-replicate}
 use Rattle.answers.specs.Pick.{pick}
 use Rattle.answers.specs.Tests.{asked_all, is_open}
@@ -15,7 +15,7 @@ use Rattle.guest.specs.declared.Given.TheVariants.{Nothing}
 use Rattle.guest.specs.declared.KernelLoaderResult.{KernelLoaderResult}
 use Rattle.guest.specs.declared.Map.{Map}
 use Rattle.guest.specs.declared.Memory.{Memory}
-use Rattle.guest.specs.Loading.{Plan, Loads, refused_plan}
+use Rattle.guest.specs.Loading.{Plan, Loads}
 use Rattle.guest.specs.Maps.{whole_map}
 use Rattle.guest.specs.Room.{memory_of, whole_of}
 use Rattle.guest.specs.Stream.{pour}
@@ -38,7 +38,7 @@ use Rattle.loads.specs.Formats.{plan_of, LoadSays}
 use Rattle.loads.specs.declared.Options.{Options}
 use Rattle.desk.specs.declared.table.Row.{Row}
 use Rattle.desk.specs.Table.{job_tests, has_line, image_row, line_row, body_of}
-use Rattle.desk.specs.Work.{image_format, image_plan, line_capacity, line_plan, with_line, add_plan, job_image_plan, bodies_plan, job_plan, memory_after, Works}
+use Rattle.desk.specs.Work.{image_format, image_plan, line_capacity, line_plan, with_line, add_plan, job_image_plan, bodies_plan, job_plan, Works}
 
 -- ---- the image
 

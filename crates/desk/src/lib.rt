@@ -1,5 +1,7 @@
 // A job of the desk program: an image, with or without a line, after a table of contents. The image is loaded into
 // 16,384 zero bytes, the line is put at the kernel's end, and a text says what came of it.
+#![tactic(auto)]
+
 ghost use Rattle.std.specs.Prelude.{◌≡◌, length};
 ghost use Rattle.guest.specs.Loading.{Loads};
 ghost use Rattle.guest.specs.Room.{whole_of};
@@ -19,7 +21,7 @@ mod telling;
 const GUEST: usize = 16384;
 
 // The text that a job prints, at the front of its bytes; the rest of them are 0.
-#[derive(Drop)]
+#[derive(Clone, Copy)]
 pub struct Output {
     pub bytes: [u8; 80],
     pub length: usize,

@@ -12,7 +12,7 @@ use fields::{copying, numbers};
 const MOST: usize = 16384;
 
 // A place in the job, counted from its first byte.
-#[derive(Drop)]
+#[derive(Clone, Copy)]
 pub(crate) struct JobPlace(pub u64);
 
 // The places of the two rows.
@@ -21,7 +21,7 @@ const FIRST: u64 = 4;
 const SECOND: u64 = 16;
 
 // A row: the kind of a body, its place in the job and its size.
-#[derive(Drop)]
+#[derive(Clone, Copy)]
 pub(crate) struct Row {
     pub kind: u64,
     pub place: JobPlace,

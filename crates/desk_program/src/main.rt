@@ -1,4 +1,6 @@
 // The desk program: reads a job from standard input, has it done, and writes its text to standard output.
+#![tactic(auto)]
+
 use fields::copying;
 use libc::{STDIN_FILENO, STDOUT_FILENO};
 

@@ -1,6 +1,6 @@
 -- "A load answers with success exactly when every rule holds for every header, whichever order they are asked in": rules-accept and
 -- accept-rules.
-use Prim.Native.Nat.{ℕ, zero, suc, ◌+◌, ◌<◌}
+use Prim.Native.Nat.{ℕ, zero, suc, ◌<◌}
 use mathlib.Core.Path.{◌≡◌, refl, subst⁻¹}
 use mathlib.Core.Bool.{Bool, true, false}
 use mathlib.Core.List.{List}
@@ -10,7 +10,7 @@ use lib.Dec.{leb}
 use lib.ListN.{length}
 use Rattle.answers.specs.Tests.{Test, asked_all, AllHold}
 use Rattle.answers.specs.declared.Gate.{Gate}
-use Rattle.answers.specs.declared.Gate.TheVariants.{Open}
+use Rattle.answers.specs.declared.Gate.TheVariants.{Open, Shut}
 use Rattle.answers.proofs.PickLaws.{pick_with}
 use Rattle.answers.proofs.TestsLaws.{open_all, all_open}
 use Rattle.guest.specs.Addresses.{amount_of, is_given}
@@ -22,7 +22,7 @@ use Rattle.elf.specs.ProgramHeaders.{header_of}
 use Rattle.elf.specs.NoteWalk.{entry_of}
 use Rattle.elf.specs.Survey.{segment_tests, memory_tests, end_of, step_by, load_step, said_step, note_step, step_of}
 use Rattle.elf.specs.Pouring.{plan_of}
-use Rattle.elf.specs.Verdict.{Passes, passes, Verdict, accepted, Accepted, is_accepted}
+use Rattle.elf.specs.Verdict.{Passes, passes, Verdict, accepted, Accepted, is_accepted, by_header, by_test}
 use Rattle.elf.specs.Rules.{SegmentFits, MemoryRules, NotesSay, notes_say, HeaderRules, Rules}
 use Rattle.guest.specs.declared.Answer.{Answer}
 use Rattle.elf.specs.declared.NoteAnswer.{NoteAnswer}
@@ -34,6 +34,7 @@ use Rattle.elf.proofs.Verdicts.{none_decides, verdict}
 -- ---- one program header passes exactly where its rules hold
 
 passes_open : (gate : Gate) (end : GuestAddress) → Passes (step_by gate end) → gate ≡ Open
+passes_open (Shut _) end x'' = elim x'' [ ]
 passes_open Open end passes = refl
 
 hold_passes : (ts : List Test) (end : GuestAddress) → AllHold ts → Passes (step_by (asked_all Open ts) end)
@@ -43,6 +44,7 @@ said_passes : {said : NoteAnswer} → NotesSay said → Passes (said_step said)
 said_passes notes_say = passes
 
 passes_said : (said : NoteAnswer) → Passes (said_step said) → NotesSay said
+passes_said (answer.Refused _) x'' = elim x'' [ ]
 passes_said (answer.Says cap) passes = notes_say
 
 pub both_ways : {b : Bool} → b ≡ true → b ≡ false → ⊥
@@ -127,6 +129,8 @@ module _ (image : List ℕ) (m : Memory) (offset highmem : Given) where
   rules_accept rules = none_decides image m offset highmem rules.before (λ j lt. rules_pass image m offset (header_of image j) (rules.headers j lt))
 
   of_verdict : {a : Answer} → Verdict image m offset highmem a → Accepted a → Rules image m offset highmem
+  of_verdict (by_header {r = r} _ _) x8 = elim x8 [ ]
+  of_verdict (by_test {r = r} _) x5 = elim x5 [ ]
   of_verdict (accepted hold pass) is_accepted = record { before = hold; headers = λ j lt. passes_rules image m offset (header_of image j) (pass j lt) }
 
   pub accept_rules : Accepted told → Rules image m offset highmem

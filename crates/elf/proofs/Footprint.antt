@@ -2,7 +2,7 @@
 -- number of parts and the same parts, whatever the rest of either image holds. So a caller may plan with those bytes only, and copy the parts
 -- from the whole image (`loads`, Footprint).
 use Prim.Native.Nat.{ℕ, zero, suc, ◌+◌, ◌*◌, ◌≤◌, ◌<◌}
-use mathlib.Core.Path.{◌≡◌, sym, ◌∙◌, refl, ap}
+use mathlib.Core.Path.{◌≡◌, ◌∙◌, refl, ap}
 use mathlib.Core.Bool.{false}
 use mathlib.Core.List.{List}
 use native.Mathlib.Omega.{arith}

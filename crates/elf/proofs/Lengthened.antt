@@ -1,7 +1,7 @@
 -- The plan when the image is lengthened by t and guest memory grows to m': it is the same, or it refused with what may lift. One argument
 -- serves the image and guest memory, alone and together: a refusal for image bytes lifts, or nothing was added to the image.
 use Prim.Native.Nat.{ℕ, zero, suc, ◌+◌, ◌≤◌, ◌<◌}
-use mathlib.Core.Path.{◌≡◌, sym, ◌∙◌, refl, ap, subst, subst⁻¹}
+use mathlib.Core.Path.{◌≡◌, sym, ◌∙◌, refl, ap, subst⁻¹}
 use mathlib.Core.List.{List, [], ◌∷◌, ◌++◌}
 use mathlib.Core.Logic.{◌⊎◌, ⊎_elim}
 use native.Mathlib.Omega.{arith}

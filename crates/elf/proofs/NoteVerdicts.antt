@@ -21,7 +21,7 @@ use Rattle.guest.specs.declared.PvhNote.{PvhNote}
 use Rattle.guest.specs.declared.PvhBootCapability.TheVariants as pvh
 use Rattle.reading.specs.Notes.{note_header_of}
 use Rattle.elf.specs.Load.{note_number}
-use Rattle.elf.specs.Notes.{is_pvh_note, note_length, note_at, note_tests, PassedOver, no_note, one_more, refused_note, found_note, no_entry, NoteVerdict, too_long, refused, found, not_found}
+use Rattle.elf.specs.Notes.{is_pvh_note, note_length, note_at, note_tests, PassedOver, no_note, one_more, refused_note, found_note, NoteVerdict, too_long, refused, found, not_found}
 use Rattle.elf.specs.NoteWalk.{turn_by, turn_at, after_turn, walk_from, twelves, entry_of, public_note}
 use Rattle.elf.specs.declared.NoteAnswer.TheVariants as answer
 use Rattle.elf.specs.declared.ElfNote.{ElfNote}

@@ -2,17 +2,14 @@
 use Prim.Native.Nat.{ℕ, zero, suc, ◌+◌, ◌*◌, ◌-◌, ◌≤◌, ◌<◌}
 use mathlib.Core.Path.{◌≡◌, refl, sym, ◌∙◌, ap, subst}
 use mathlib.Core.Bool.{Bool, true, false}
-use mathlib.Core.List.{List, [], ◌∷◌}
-use mathlib.Core.Logic.{⊎_elim}
+use mathlib.Core.List.{List}
 use native.Mathlib.Omega.{arith}
 use native.Mathlib.Nat.{add-zero, add_assoc}
 use borrow.Author.Tests.{lt-ltb, le-ltb, leb-true}
-use types.Run.{OneOf}
-use denote.Enum.Declared.{tag_of}
 use lib.Dec.{leb}
 use lib.ListN.{length, take, drop}
 use Rattle.answers.specs.Pick.{pick}
-use Rattle.answers.specs.Tests.{Test, asked, asked_all, AllHold}
+use Rattle.answers.specs.Tests.{asked, asked_all, AllHold}
 use Rattle.answers.specs.declared.Gate.{Gate}
 use Rattle.answers.specs.declared.Gate.TheVariants.{Open, Shut}
 use Rattle.answers.specs.declared.Refusal.{Refusal}
@@ -26,7 +23,7 @@ use Rattle.fields.proofs.RangesLaws.{within_test, within_sum}
 use Rattle.guest.specs.declared.ImagePlace.{ImagePlace}
 use Rattle.guest.specs.declared.PvhBootCapability.TheVariants as pvh
 use Rattle.reading.specs.Notes.{note_header_of}
-use Rattle.elf.specs.Notes.{note_header_size, xen, is_wanted, is_pvh_note, top_size, note_length, note_with, descriptor_at, note_at, pvh_tests, size_tests, note_tests, refused_note, no_entry}
+use Rattle.elf.specs.Notes.{note_header_size, xen, is_wanted, is_pvh_note, top_size, note_length, note_with, descriptor_at, note_at, pvh_tests, size_tests, note_tests, no_entry}
 use Rattle.elf.specs.NoteWalk.{turn_by, turn_at, after_turn, walk_from, twelves, entry_of, said_by, note_of}
 use Rattle.elf.specs.declared.NoteAnswer.{NoteAnswer}
 use Rattle.elf.specs.declared.NoteAnswer.TheVariants as answer
@@ -36,7 +33,6 @@ use Rattle.elf.specs.declared.notes.Turn.TheVariants as turn
 use Rattle.elf.specs.declared.notes.Walk.{Walk}
 use Rattle.elf.specs.declared.notes.Walk.TheVariants as walk
 use Rattle.elf.specs.declared.notes.Walked.{Walked}
-use Rattle.elf.specs.contracts.notes.Walk.{the_type as the-walk}
 
 -- ---- a note's header
 
@@ -196,12 +192,12 @@ module _ (image : List ℕ) (from size read headers : ℕ) where
 -- ---- what the walk says
 
 -- if no note was found, and nothing refused
-pub not_found : (image : List ℕ) (w : Walk) → OneOf (1 ∷ 2 ∷ []) (tag_of the-walk w) → OneOf (0 ∷ 1 ∷ []) (tag_of the-walk w)
+pub not_found : (image : List ℕ) (w : Walk) → ((place : ImagePlace) (size : ℕ) → w ≡ walk.Found place size → ⊥) → ((r : Refusal) → w ≡ walk.Refused r → ⊥)
     → answer.Says pvh.PvhEntryNotPresent ≡ said_by image w
 unfolding said_by
-not_found image (walk.Found place size) h g = absurd (⊎_elim (λ e. omega arith) (λ e. omega arith) h)
+not_found image (walk.Found place size) h g = absurd (h place size refl)
 not_found image walk.NotFound h g = refl
-not_found image (walk.Refused r) h g = absurd (⊎_elim (λ e. omega arith) (λ e. omega arith) g)
+not_found image (walk.Refused r) h g = absurd (g r refl)
 
 pub said_as : (image : List ℕ) (from : ImagePlace) (size : ℕ) {walked : Walked} {w : Walk} {said : NoteAnswer}
     → note_of image walked ≡ entry_of image from size → walked.walk ≡ w → said ≡ said_by image w

@@ -9,7 +9,7 @@ use native.Mathlib.Omega.{arith}
 use lib.Dec.{leb}
 use lib.ListN.{length, length-append}
 use Rattle.answers.specs.Pick.{pick}
-use Rattle.answers.specs.Tests.{Test, asked_all, AllHold}
+use Rattle.answers.specs.Tests.{Test, AllHold}
 use Rattle.answers.specs.Keeping.{Keeps, same, lifted, ShutBy, shut_by}
 use Rattle.answers.specs.declared.Gate.{Gate}
 use Rattle.answers.specs.declared.Gate.TheVariants.{Open, Shut}

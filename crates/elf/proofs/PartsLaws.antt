@@ -12,7 +12,6 @@ use Rattle.answers.proofs.PickLaws.{pick_with}
 use Rattle.fields.proofs.RangesLaws.{sum_within}
 use Rattle.guest.specs.Addresses.{amount_of}
 use Rattle.guest.specs.Parts.{part_stream, no_part, parts_from, Fits}
-use Rattle.guest.specs.Stream.{stream_at}
 use Rattle.guest.specs.declared.Answer.{Answer}
 use Rattle.guest.specs.declared.Answer.TheVariants.{Loaded, Refused}
 use Rattle.guest.specs.declared.Given.{Given}

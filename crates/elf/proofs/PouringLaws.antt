@@ -1,10 +1,9 @@
 -- Laws of the stream of a load.
-use Prim.Native.Nat.{ℕ, suc, ◌+◌, ◌≤◌}
+use Prim.Native.Nat.{ℕ, ◌+◌}
 use mathlib.Core.Path.{◌≡◌, sym, ◌∙◌, refl, ap}
 use mathlib.Core.List.{List, []}
 use borrow.Author.Tests.{eq-eqb, ne_eqb}
 use lib.Dec.{eqb}
-use lib.ListN.{length}
 use Rattle.answers.specs.Pick.{pick}
 use Rattle.answers.specs.Tests.{asked_all}
 use Rattle.answers.specs.declared.Refusal.{Refusal}
@@ -12,20 +11,17 @@ use Rattle.answers.specs.declared.Gate.{Gate}
 use Rattle.answers.specs.declared.Gate.TheVariants.{Open, Shut}
 use Rattle.answers.proofs.PickLaws.{pick_with}
 use Rattle.guest.specs.Addresses.{amount_of}
-use Rattle.guest.specs.Loading.{Plan, Loads}
+use Rattle.guest.specs.Loading.{Plan}
 use Rattle.guest.specs.Room.{room}
-use Rattle.guest.specs.Stream.{Poke, pour, stream_at, bytes_at}
+use Rattle.guest.specs.Stream.{Poke, stream_at, bytes_at}
 use Rattle.guest.specs.declared.Given.{Given}
 use Rattle.guest.specs.declared.Memory.{Memory}
-use Rattle.guest.proofs.StreamLaws.{pour_append, pour_past}
 use Rattle.guest.proofs.LoadingLaws.{tests_open, tests_shut, behind_with}
 use Rattle.elf.specs.Header.{e_entry_of, e_phnum_of, tests}
-use Rattle.elf.specs.ProgramHeaders.{header_of}
 use Rattle.elf.specs.Survey.{blank, survey_from, survey_of}
-use Rattle.elf.specs.Pouring.{segment_stream, stream_from, whole_stream, if_loaded, survey_plan, plan_of}
-use Rattle.guest.specs.declared.KernelLoaderResult.{KernelLoaderResult}
+use Rattle.elf.specs.Pouring.{segment_stream, whole_stream, if_loaded, survey_plan, plan_of}
 use Rattle.guest.specs.declared.Answer.{Answer}
-use Rattle.guest.specs.declared.Answer.TheVariants.{Loaded, Refused}
+use Rattle.guest.specs.declared.Answer.TheVariants.{Refused}
 use Rattle.elf.specs.declared.program_headers.ProgramHeader.{ProgramHeader}
 
 -- ---- one program header

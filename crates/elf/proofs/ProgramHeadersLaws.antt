@@ -1,6 +1,6 @@
 -- Laws of program headers.
 use Prim.Native.Nat.{ℕ, ◌+◌, ◌-◌, ◌*◌, ◌≤◌}
-use mathlib.Core.Path.{◌≡◌, ap, ◌∙◌}
+use mathlib.Core.Path.{◌≡◌, ap}
 use mathlib.Core.List.{List}
 use borrow.Author.Tests.{le-ltb}
 use native.Mathlib.Omega.{arith}

@@ -5,7 +5,7 @@ use Prim.Native.Nat.{ℕ, zero, suc, ◌+◌, ◌≤◌, ◌<◌, max}
 use mathlib.Core.Path.{◌≡◌, sym, ◌∙◌, refl, ap, subst, subst⁻¹}
 use mathlib.Core.Bool.{Bool, true, false}
 use mathlib.Core.List.{List}
-use mathlib.Core.Logic.{◌⊎◌, inl, inr, ⊎_elim}
+use mathlib.Core.Logic.{◌⊎◌, inl, inr}
 use native.Mathlib.Omega.{arith}
 use native.Mathlib.Decide.{dec_le}
 use native.Mathlib.Nat.{zero-add}
@@ -18,17 +18,16 @@ use Rattle.answers.specs.declared.Refusal.{Refusal}
 use Rattle.answers.proofs.PickLaws.{pick_with}
 use Rattle.answers.proofs.TestsLaws.{open_all}
 use Rattle.guest.specs.Addresses.{amount_of, is_given}
-use Rattle.guest.specs.Answers.{pvh_code, pvh_address, pvh_place, pvh_size, answer_number, answer_values}
+use Rattle.guest.specs.Answers.{answer_number, answer_values}
 use Rattle.guest.specs.Room.{room, memory_of}
 use Rattle.guest.specs.declared.Given.{Given}
-use Rattle.guest.specs.declared.GuestAddress.{GuestAddress}
 use Rattle.guest.specs.declared.Map.{Map}
 use Rattle.guest.specs.declared.PvhNote.{PvhNote}
 use Rattle.guest.specs.declared.PvhBootCapability.{PvhBootCapability}
 use Rattle.guest.specs.declared.PvhBootCapability.TheVariants as pvh
 use Rattle.guest.specs.declared.KernelLoaderResult.{KernelLoaderResult}
 use Rattle.guest.specs.declared.Answer.{Answer}
-use Rattle.guest.specs.declared.Answer.TheVariants.{Loaded}
+use Rattle.guest.specs.declared.Answer.TheVariants.{Loaded, Refused}
 use Rattle.elf.specs.Header.{e_phnum_of}
 use Rattle.elf.specs.ProgramHeaders.{header_of}
 use Rattle.elf.specs.Notes.{note_at}
@@ -262,4 +261,5 @@ module _ (image : List ℕ) (offset highmem : Given) (map : Map) (before after :
   accepted_values ok = by r ok refl
     where
       by : (a : Answer) → Accepted a → r ≡ a → (answer_number r ≡ 0) × ElfValues image offset (answer_values r)
+      by (Refused _) x3 loaded = elim x3 [ ]
       by (Loaded result) is_accepted loaded = values (results loaded) loaded

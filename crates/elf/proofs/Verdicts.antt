@@ -72,6 +72,7 @@ module _ (image : List ℕ) (m : Memory) (offset : Given) where
       next e = survey_from n image (room m) offset (suc i) (advanced result e)
 
       goes_on : (u : Step) → Passes u → ((e : Effect) → next e ≡ Refused r) → after_step u next ≡ Refused r
+      goes_on (Stop _) x7 rest = elim x7 [ ]
       goes_on (Pass e) passes rest = rest e
 
       split : Dec (suc i ≤ k) → (suc i ≤ k → (e : Effect) → next e ≡ Refused r) → after_step (at_header i) next ≡ Refused r
@@ -91,6 +92,7 @@ module _ (image : List ℕ) (m : Memory) (offset : Given) where
       next e = survey_from n image (room m) offset (suc i) (advanced result e)
 
       goes_on : (u : Step) → Passes u → ((e : Effect) → Accepted (next e)) → Accepted (after_step u next)
+      goes_on (Stop _) x4 rest = elim x4 [ ]
       goes_on (Pass e) passes rest = rest e
 
 -- ---- the whole load

@@ -7,6 +7,7 @@
 // found in the NOTICE file.
 //
 // SPDX-License-Identifier: Apache-2.0 AND BSD-3-Clause
+#![tactic(auto)]
 
 // ELF kernels: the plan of a load, made of the image, the memory and the options only, and its parts: the segments of
 // all program headers, in file order. The crate `loads` copies them if every header has passed.
@@ -24,14 +25,14 @@ mod program_headers;
 mod survey;
 
 // What the notes of a program header say.
-#[derive(Drop)]
+#[derive(Clone, Copy)]
 pub enum NoteAnswer {
     Says(PvhBootCapability),
     Refused(Refusal),
 }
 
 // What a note walk answers, and how many note headers it read; a refusal has no count.
-#[derive(Drop)]
+#[derive(Clone, Copy)]
 pub struct ElfNote {
     pub answer: NoteAnswer,
     pub headers: u64,

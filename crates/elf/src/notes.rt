@@ -24,7 +24,7 @@ use guest::{GuestAddress, ImagePlace, PvhBootCapability, PvhNote};
 use reading::NoteHeader;
 
 // What one note says to the walk: it is the PVH note, with this descriptor, or the next note is so many bytes further.
-#[derive(Drop)]
+#[derive(Clone, Copy)]
 pub enum Turn {
     Found(ImagePlace, u64),
     Skip(u64),
@@ -32,7 +32,7 @@ pub enum Turn {
 }
 
 // What a walk finds: where the descriptor of the PVH note begins, and its size.
-#[derive(Drop)]
+#[derive(Clone, Copy)]
 pub enum Walk {
     Found(ImagePlace, u64),
     NotFound,
@@ -40,7 +40,7 @@ pub enum Walk {
 }
 
 // It, and how many note headers were read; a refusal has no count.
-#[derive(Drop)]
+#[derive(Clone, Copy)]
 pub struct Walked {
     pub walk: Walk,
     pub headers: u64,

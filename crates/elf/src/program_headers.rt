@@ -17,7 +17,7 @@ use fields::numbers;
 use guest::{GuestAddress, ImagePlace};
 
 // The fields of a program header that a load reads.
-#[derive(Drop)]
+#[derive(Clone, Copy)]
 pub struct ProgramHeader {
     pub p_type: u64,
     pub p_offset: ImagePlace,

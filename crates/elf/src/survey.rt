@@ -30,7 +30,7 @@ use guest::{
 };
 
 // What a program header that does not refuse changes of the result.
-#[derive(Drop)]
+#[derive(Clone, Copy)]
 pub enum Effect {
     Nothing,
     EndsAt(GuestAddress),
@@ -38,7 +38,7 @@ pub enum Effect {
 }
 
 // What one program header says: go on, or refuse.
-#[derive(Drop)]
+#[derive(Clone, Copy)]
 pub enum Step {
     Pass(Effect),
     Stop(Refusal),

@@ -1,5 +1,7 @@
 // Prints worked examples, a line each: `stdout` has what each is to say. Those that are proved are in the crate
 // `cases`.
+#![tactic(auto)]
+
 mod images;
 mod lines;
 mod loading;

@@ -1,4 +1,6 @@
 // What every loader reads and writes: numbers, rows of numbers and tags at a place, ranges, rounding, the copy. Each function answers on every input.
+#![tactic(auto)]
+
 pub mod copying;
 pub mod numbers;
 pub mod ranges;

@@ -1,7 +1,7 @@
 -- Laws of maps as lists of numbers.
-use mathlib.Core.Path.{◌≡◌, sym, ◌∙◌, refl, ap}
+use mathlib.Core.Path.{◌≡◌, sym, refl, ap}
 use mathlib.Core.List.{List, [], ◌∷◌}
-use Prim.Native.Nat.{ℕ, zero, suc, ◌/◌, ◌%◌, ◌≤◌, ◌<◌, min}
+use Prim.Native.Nat.{ℕ, zero, suc, ◌/◌, ◌%◌, ◌<◌, min}
 use native.Mathlib.Omega.{arith}
 use borrow.Author.Tests.{eq-eqb, ne_eqb}
 use lib.ListN.{length, get_or, set, replicate}

@@ -2,7 +2,7 @@
 use Prim.Native.Nat.{ℕ, zero, suc, ◌+◌, ◌-◌, ◌≤◌, ◌<◌, min}
 use mathlib.Core.Path.{◌≡◌, sym, ◌∙◌, refl, ap, subst, subst⁻¹}
 use mathlib.Core.Bool.{Bool, true, false}
-use mathlib.Core.List.{List, [], ◌∷◌, ◌++◌, append-nil}
+use mathlib.Core.List.{List, [], ◌∷◌, ◌++◌}
 use native.Mathlib.Omega.{arith}
 use native.Mathlib.Nat.{sub-zero}
 use native.Mathlib.Decide.{dec_le}
@@ -16,7 +16,7 @@ use Rattle.fields.specs.Ranges.{lies_within}
 use Rattle.fields.proofs.RangesLaws.{within_sum}
 use Rattle.guest.specs.Room.{room}
 use Rattle.guest.specs.Stream.{Poke, pour, stream_at, bytes_at, Inside, none}
-use Rattle.guest.specs.Loading.{Plan, Loads}
+use Rattle.guest.specs.Loading.{Loads}
 use Rattle.guest.specs.Parts.{part_stream, no_part, kept_part, PartLies, Fits, PartCopied, parts_from, left_of, Place, place_after, portion_of}
 use Rattle.guest.specs.declared.Memory.{Memory}
 use Rattle.guest.specs.declared.Part.{Part}

@@ -1,5 +1,5 @@
 -- A load in portions: parts of the image, each for one address; and how far a budget of bytes goes over them.
-use Rattle.std.specs.Prelude.{◌≡◌, Bool, true, List, [], ◌++◌, ℕ, zero, suc, ◌+◌, ◌-◌, ◌≤◌, ◌<◌, min, leb, length, take, drop}
+use Rattle.std.specs.Prelude.{◌≡◌, true, List, [], ◌++◌, ℕ, zero, suc, ◌+◌, ◌-◌, ◌≤◌, ◌<◌, min, leb, length, take, drop}
 use Rattle.answers.specs.Pick.{pick}
 use Rattle.fields.specs.Ranges.{lies_within}
 use Rattle.guest.specs.Room.{room}

@@ -37,7 +37,7 @@ pub fn kept(image_len: u64, memory: Memory, part: Part) -> Part
 }
 
 // What was copied of a part: how many bytes it has, none where it was not kept, and how many were copied now.
-#[derive(Drop)]
+#[derive(Clone, Copy)]
 pub struct Copied {
     pub size: u64,
     pub count: u64,

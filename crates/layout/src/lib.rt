@@ -1,5 +1,7 @@
 // Where the pieces of a boot go whose addresses are not given: boot data and line at the lowest addresses at which they
 // fit, the ramdisk at the highest that it may have.
+#![tactic(auto)]
+
 ghost use Rattle.std.specs.Prelude.{◌≡◌, ◌<◌};
 ghost use Rattle.placing.specs.Search.{Order};
 ghost use Rattle.layout.specs.Layout.{width_of, align_of, end_of, piece_of, Settled, answer_by, Arranges};
@@ -15,7 +17,7 @@ mod hull;
 mod search;
 
 // How the kernel is entered.
-#[derive(Drop)]
+#[derive(Clone, Copy)]
 pub enum Entry {
     ZeroPage,
     Pvh,
@@ -24,7 +26,7 @@ pub enum Entry {
 
 // The sizes of the pieces: of the line with its zero, 0 if it lies in a device tree; of zero page, start block with its
 // lists, or tree.
-#[derive(Drop)]
+#[derive(Clone, Copy)]
 pub struct Sizes {
     pub line: u64,
     pub ramdisk: u64,
@@ -32,7 +34,7 @@ pub struct Sizes {
 }
 
 // The addresses that are given.
-#[derive(Drop)]
+#[derive(Clone, Copy)]
 pub struct Wanted {
     pub line: Given,
     pub ramdisk: Given,
@@ -40,14 +42,14 @@ pub struct Wanted {
 }
 
 // All addresses; that of an empty piece that was not given is 0.
-#[derive(Drop)]
+#[derive(Clone, Copy)]
 pub struct Layout {
     pub line: GuestAddress,
     pub ramdisk: GuestAddress,
     pub boot_data: GuestAddress,
 }
 
-#[derive(Drop)]
+#[derive(Clone, Copy)]
 pub enum Answer {
     Arranged(Layout),
     Refused(Refusal),

@@ -8,6 +8,7 @@
 // found in the NOTICE file.
 //
 // SPDX-License-Identifier: Apache-2.0 AND BSD-3-Clause
+#![tactic(auto)]
 
 // A command line put into guest memory. The tests come first, in their order; then the line is written where it has room.
 ghost use Rattle.std.specs.Prelude.{◌≡◌};
@@ -22,7 +23,7 @@ use cmdline::{Cmdline, LIMIT, sizes, writing};
 use fields::copying;
 use guest::{GuestAddress, Map, Memory, lent, room};
 
-#[derive(Drop)]
+#[derive(Clone, Copy)]
 pub enum Answer {
     Loaded,
     Refused(Refusal),

@@ -2,7 +2,6 @@
 -- accepted load does; and so do the parts that were tested, each of which lies in the image and in one range of guest memory.
 use Prim.Native.Nat.{ℕ, zero, suc, ◌+◌, ◌≤◌, ◌<◌}
 use mathlib.Core.Path.{◌≡◌, sym, ◌∙◌, refl, ap}
-use mathlib.Core.Bool.{Bool}
 use mathlib.Core.List.{List, []}
 use native.Mathlib.Omega.{arith}
 use Rattle.answers.specs.Pick.{pick}

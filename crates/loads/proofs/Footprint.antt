@@ -1,10 +1,9 @@
 -- "Two images of one length that hold the same bytes where a plan looks have the same plan": the same answer, the same number of parts and the same parts,
 -- whatever the rest of either image holds. So a caller may plan with those bytes only, and copy the parts from the whole image: guest memory is then as the
 -- load of the whole image leaves it.
-use Prim.Native.Nat.{ℕ, ◌+◌, ◌≤◌, ◌<◌}
-use mathlib.Core.Path.{◌≡◌, refl, sym, ◌∙◌, ap}
+use Prim.Native.Nat.{ℕ}
+use mathlib.Core.Path.{◌≡◌, refl, ◌∙◌, ap}
 use mathlib.Core.List.{List}
-use native.Mathlib.Omega.{arith}
 use Rattle.guest.specs.Addresses.{amount_of}
 use Rattle.guest.specs.Room.{memory_of}
 use Rattle.guest.specs.declared.Answer.{Answer}

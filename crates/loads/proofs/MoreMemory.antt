@@ -9,7 +9,7 @@ use native.Mathlib.Omega.{arith}
 use lib.ListN.{length, length-append}
 use Rattle.answers.specs.Keeping.{Keeps}
 use Rattle.guest.specs.Addresses.{amount_of}
-use Rattle.guest.specs.Loading.{Plan, RefusedFor}
+use Rattle.guest.specs.Loading.{RefusedFor}
 use Rattle.guest.specs.Maps.{good_map, whole_map}
 use Rattle.guest.specs.Room.{Grows, Larger, memory_of}
 use Rattle.guest.specs.Sizes.{allowed, longest}

@@ -11,7 +11,7 @@ use Rattle.answers.specs.declared.Refusal.TheVariants.{ReadBzImageCompressedKern
 use Rattle.fields.specs.Ranges.{fits64}
 use Rattle.guest.specs.Addresses.{amount_of}
 use Rattle.guest.specs.Lent.{lent_tests}
-use Rattle.guest.specs.Loading.{Plan, behind_tests}
+use Rattle.guest.specs.Loading.{behind_tests}
 use Rattle.guest.specs.Maps.{ranges_of}
 use Rattle.guest.specs.Room.{room}
 use Rattle.guest.specs.declared.Answer.{Answer}

@@ -1,12 +1,10 @@
 -- "The whole_slice map, or no range over an empty slice, gives today's answers", of a load of any format: over that map the plan is the one of a slice with
 -- no map, whatever the image and the options, so every answer and every byte is the same.
 use Prim.Native.Nat.{ℕ}
-use mathlib.Core.Path.{◌≡◌, refl, ◌∙◌, ap}
+use mathlib.Core.Path.{◌≡◌, refl, ◌∙◌}
 use mathlib.Core.List.{List}
 use Rattle.guest.specs.Addresses.{amount_of}
-use Rattle.guest.specs.Loading.{Plan}
 use Rattle.guest.specs.Room.{whole_of}
-use Rattle.guest.specs.declared.Answer.{Answer}
 use Rattle.elf.proofs.WholeSlice as elf
 use Rattle.bzimage.proofs.WholeSlice as bzimage
 use Rattle.arm64.proofs.WholeSlice as arm64

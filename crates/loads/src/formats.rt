@@ -10,7 +10,7 @@ use fields::{numbers, tags};
 use guest::{Answer, Extent, GuestAddress, ImagePlace, Memory, Part, addresses, extents, parts};
 
 // What an image is by its magic number.
-#[derive(Drop)]
+#[derive(Clone, Copy)]
 pub enum Kind {
     Is(Format),
     Unknown,
@@ -105,7 +105,7 @@ pub fn memory(image: &[u8], options: Options, i: u64) -> Extent
 }
 
 // What the parts of a load are read from: a table of program headers, or the one part.
-#[derive(Drop)]
+#[derive(Clone, Copy)]
 pub(crate) struct Layout {
     pub by_table: bool,
     pub table: ImagePlace,

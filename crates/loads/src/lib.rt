@@ -1,5 +1,7 @@
 // Loads of every format. A format gives its plan and its parts by number; what is done with them is said once, here:
 // the whole load, the load in steps, and the parts for callers that copy by themselves.
+#![tactic(auto)]
+
 ghost use Rattle.loads.specs.Formats.{LoadSays};
 
 use guest::{Answer, Given, Map, Memory};
@@ -10,7 +12,7 @@ pub mod formats;
 pub mod steps;
 
 // The formats of kernel images.
-#[derive(Drop)]
+#[derive(Clone, Copy)]
 pub enum Format {
     Elf,
     BzImage,
@@ -18,7 +20,7 @@ pub enum Format {
 }
 
 // What a load is made with. The base of an arm64 Image is its offset, 0 if none is given.
-#[derive(Drop)]
+#[derive(Clone, Copy)]
 pub struct Options {
     pub format: Format,
     pub kernel_offset: Given,
@@ -26,7 +28,7 @@ pub struct Options {
 }
 
 // How far a load in steps is: not started, copying, or answered.
-#[derive(Drop)]
+#[derive(Clone, Copy)]
 pub enum Stage {
     Fresh,
     Copying,
@@ -35,7 +37,7 @@ pub enum Stage {
 
 // A load between two steps: its stage, the first step's image length and memory, and the next part with the bytes of
 // it that are done.
-#[derive(Drop)]
+#[derive(Clone, Copy)]
 pub struct Progress {
     pub stage: Stage,
     pub image_len: u64,

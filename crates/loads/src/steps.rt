@@ -10,7 +10,7 @@ use guest::{Answer, Map, Memory};
 
 // A load between two steps: how far it is, its answer, which counts once it has started, and the options that it was
 // made with.
-#[derive(Drop)]
+#[derive(Clone, Copy)]
 pub struct State {
     pub progress: Progress,
     pub answer: Answer,
@@ -18,7 +18,7 @@ pub struct State {
 }
 
 // What a step replies: there is more to copy, the load's answer, or that the call was no step.
-#[derive(Drop)]
+#[derive(Clone, Copy)]
 pub enum Reply {
     More,
     Answers(Answer),
@@ -26,7 +26,7 @@ pub enum Reply {
 }
 
 // A step's result: the state for the next one, the bytes that were copied, and the reply.
-#[derive(Drop)]
+#[derive(Clone, Copy)]
 pub struct Stepped {
     pub state: State,
     pub copied: u64,

@@ -1,4 +1,6 @@
 // Where a piece can go in guest memory: the lowest, or the highest, address at which it fits.
+#![tactic(auto)]
+
 ghost use Rattle.std.specs.Prelude.{◌≡◌, max};
 ghost use Rattle.placing.specs.Placing.{Fits, First, FirstFit, LastFit};
 ghost use Rattle.placing.specs.Search.{Order, is_before, first_of};

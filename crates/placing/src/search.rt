@@ -7,7 +7,7 @@ use fields::ranges;
 use guest::{Given, GuestAddress};
 
 // What n bytes at an address meet: none of the ranges, or the one with this start and size.
-#[derive(Drop)]
+#[derive(Clone, Copy)]
 pub enum Met {
     Apart,
     Meets(u64, u64),

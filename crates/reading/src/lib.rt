@@ -1,5 +1,7 @@
 // A reader that keeps the image and its place together. Its functions are thin: each takes the reader apart and leaves the work to a
 // function over a slice and a place. They are proved by hand; whoever reads by `notes` needs no reader of their own.
+#![tactic(auto)]
+
 ghost use Rattle.std.specs.Prelude.{◌≡◌};
 ghost use Rattle.reading.specs.Readers.{reader_at, Takes};
 
@@ -8,21 +10,21 @@ use guest::ImagePlace;
 pub mod notes;
 mod places;
 
-#[derive(Drop)]
+#[derive(Clone, Copy)]
 pub struct Reader<'a> {
     pub image: &'a [u8],
     pub at: ImagePlace,
 }
 
 // A number that was taken, and the reader past it.
-#[derive(Drop)]
+#[derive(Clone, Copy)]
 pub struct Taken<'a> {
     pub value: u64,
     pub rest: Reader<'a>,
 }
 
 // The twelve bytes before a note's name: the sizes of its name and of its descriptor, and its type, each a number of four bytes.
-#[derive(Drop)]
+#[derive(Clone, Copy)]
 pub struct NoteHeader {
     pub n_namesz: u64,
     pub n_descsz: u64,

@@ -1,5 +1,7 @@
 // Slugs, the texts that a command line is built of: their bytes and blanks, keys and values, lists of values, where a whole line parts, and
 // slugs put into a buffer. Each function answers on every input.
+#![tactic(auto)]
+
 pub mod buffers;
 pub mod bytes;
 pub mod keys;

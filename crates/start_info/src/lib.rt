@@ -1,4 +1,6 @@
 // The PVH start information: Xen's start block with its list of modules and its memory map, written into guest memory and checked there.
+#![tactic(auto)]
+
 ghost use Rattle.std.specs.Prelude.{◌≡◌, length};
 ghost use Rattle.fields.specs.Rows.{field_width, rows_numbers};
 ghost use Rattle.start_info.specs.Kinds.{module_widths, range_widths};
@@ -17,7 +19,7 @@ mod parts;
 mod writing;
 
 // The addresses of block, modules and memory map, and what else the block says: flags, the addresses of command line and RSDP.
-#[derive(Drop)]
+#[derive(Clone, Copy)]
 pub struct Start {
     pub block: GuestAddress,
     pub modules: GuestAddress,

@@ -1,6 +1,6 @@
 -- For a line made only by accepted `insert` calls, with keys free of quotes and values either free of quotes or of two bytes or more with one
 -- at each end, the words read are the insertions in order, key and value at their places, whatever the capacity: `insertions_read`.
-use Prim.Native.Nat.{ℕ, ◌+◌, ◌-◌}
+use Prim.Native.Nat.{ℕ}
 use mathlib.Core.Path.{◌≡◌, refl, sym, ap, subst₂, subst⁻¹, ◌∙◌}
 use mathlib.Core.Bool.{false}
 use mathlib.Core.List.{List, [], ◌∷◌, ◌++◌, append_assoc, append-nil}

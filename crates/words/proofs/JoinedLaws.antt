@@ -96,6 +96,7 @@ pub data Goods : List Insertion → Type 0 where
 
 word_at_lem : (pre w rest : List ℕ) → Starts w → Ends rest → Passes 32 w → (n : ℕ)
     → words_from (suc n) (pre ++ (w ++ rest)) (length pre) ≡ word_at (pre ++ (w ++ rest)) (length pre) (length pre + length w) ∷ words_from n (pre ++ (w ++ rest)) (length pre + length w)
+word_at_lem pre [] rest x3 e p n = elim x3 [ ]
 word_at_lem pre (c ∷ cs) rest (starts m) e p n = word_first pre c cs rest m e p n
 
 ends_spaced : (xs : List Insertion) → Ends (spaced_out xs)

@@ -1,5 +1,7 @@
 // The words of a line, by the house rule: words part at runs of spaces, a double quote opens a stretch in which spaces do not part
 // words and the next one closes it, and the first equals sign outside quotes splits a word's key from its value.
+#![tactic(auto)]
+
 ghost use Rattle.words.specs.Telling.{ReadsLine};
 
 use fields::copying;
@@ -8,7 +10,7 @@ mod listing;
 mod readers;
 
 // What reading a line says: how many words it has; or the place of the quote that none closes; or that a list has too few places.
-#[derive(Drop)]
+#[derive(Clone, Copy)]
 pub enum Answer {
     Words(usize),
     UnclosedQuote(usize),

@@ -1,0 +1,15 @@
+-- `pvh::block_size`: the size by its own call, with the list of modules lent as far as it goes.
+use native.Mathlib.Omega.{arith}
+use Rattle.boot.proofs.PvhLaws.{few_numbers, lent_length, block_sized}
+use Rattle.boot.proofs.pvh.block_size.Goals as goal
+
+pub slice_bounds-module-end : goal.slice_bounds-module-end
+slice_bounds-module-end c = omega (arith, few_numbers c.args.n, c.module_numbers-count.ensures)
+
+pub slice_bounds-size-end : goal.slice_bounds-size-end
+slice_bounds-size-end c = lent_length c.args.to c.args.n c.module_numbers-count.ensures
+
+pub returns : goal.returns
+returns c =
+    let args = c.args in
+    block_sized args.to args.n args.rows.now c.module_numbers-count.ensures c.size.ensures

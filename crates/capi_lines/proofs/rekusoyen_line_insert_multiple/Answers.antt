@@ -1,0 +1,19 @@
+-- `rekusoyen_line_insert_multiple`: the tests of the line, then the insertion in place is told.
+use native.Mathlib.Omega.{arith}
+use Rattle.cmdline.specs.Insertion.{insert_multiple}
+use Rattle.capi_lines.specs.Lines.{text_in, the_boot}
+use Rattle.capi_lines.proofs.LinesLaws.{call_refused, header_sized, list_called}
+use Rattle.capi_lines.proofs.rekusoyen_line_insert_multiple.Goals as goal
+
+pub slice_bounds-insert_multiple-end : goal.slice_bounds-insert_multiple-end
+slice_bounds-insert_multiple-end c = omega (arith, (header_sized c.args.line.now c.read_header-header.ensures c.in-Open.is).size)
+
+pub returns-in-Shut : goal.returns-in-Shut
+returns-in-Shut c =
+    let args = c.args in
+    call_refused args.line.now c.read_header-header.ensures the_boot (insert_multiple (text_in args.line.now) args.key.now args.values.now args.ends.now) c.in-Shut.is c.number.ensures
+
+pub returns-in-Open : goal.returns-in-Open
+returns-in-Open c =
+    let args = c.args in
+    list_called args.line.now c.read_header-header.ensures c.in-Open.is args.key.now args.values.now args.ends.now c.insert_multiple-appended.ensures c.tell.ensures

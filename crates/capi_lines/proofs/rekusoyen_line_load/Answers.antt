@@ -1,0 +1,16 @@
+-- `rekusoyen_line_load`: the tests of the line, then what loading it answers.
+use Rattle.guest.specs.Maps.{map_of}
+use Rattle.capi_lines.proofs.LinesLaws.{load_refused, load_told}
+use Rattle.capi_lines.proofs.rekusoyen_line_load.Goals as goal
+
+pub returns-in-Shut : goal.returns-in-Shut
+returns-in-Shut c =
+    let args = c.args in
+    load_refused args.line.now args.address (map_of args.map.now) args.guest.now c.read_header-header.ensures c.in-Shut.is
+    c.number.ensures
+
+pub returns-in-Open : goal.returns-in-Open
+returns-in-Open c =
+    let args = c.args in
+    load_told args.line.now args.address (map_of args.map.now) args.guest.now c.read_header-header.ensures c.in-Open.is
+    c.text_at-boot.ensures c.text_at-init.ensures c.from_numbers.ensures c.load_texts-answer.ensures c.load_number.ensures

@@ -1,0 +1,14 @@
+-- `sizes::init_room`: each number no more than the limit, then the sums as they are asked.
+use native.Mathlib.Omega.{arith}
+use Rattle.cmdline.proofs.TextLaws.{init_gap_most, size_most}
+use Rattle.cmdline.proofs.sizes.init_room.Goals as goal
+
+pub overflow_add-counted : goal.overflow_add-counted
+overflow_add-counted c =
+    let size = size_most c.lesser-b.result c.lesser-i.result in
+    let gap = init_gap_most c.lesser-i.result in
+    omega arith
+
+pub returns : goal.returns
+returns c =
+    rw (← c.lesser-b.ensures, ← c.lesser-i.ensures, ← c.lesser.ensures, ← c.counted.ensures, ← c.init_gap.ensures) c.within.ensures

@@ -1,0 +1,13 @@
+-- `formats::only`: by the number.
+use borrow.Author.Tests.{eq-eqb, ne_eqb}
+use Rattle.answers.specs.Pick.{pick}
+use Rattle.loads.specs.Formats.{only_at}
+use Rattle.loads.proofs.formats.only.Goals as goal
+
+pub returns-then-i-eq0 : goal.returns-then-i-eq0
+unfolding only_at pick
+returns-then-i-eq0 c = rw (eq-eqb c.args.i 0 c.if-i-eq0.true)
+
+pub returns-else-i-eq0 : goal.returns-else-i-eq0
+unfolding only_at pick
+returns-else-i-eq0 c = rw (ne_eqb c.args.i 0 c.if-i-eq0.false, c.nothing.ensures)
