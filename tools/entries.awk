@@ -1,12 +1,10 @@
 # Prints, for each entry point of a source file of the repository, a function of the same name, head and contract whose
-# body calls it: the source of the crate that tools/make-dist compiles. CRATE is the file's crate, PATH the path of its
-# module.
+# body calls it: the source of the crate that tools/make-dist compiles. PATH is the path of the file's module.
 #
-# usage: awk -v crate=CRATE -v path=PATH -f entries.awk FILE.rt
+# usage: awk -v path=PATH -f entries.awk FILE.rt
 
-# what the crate names as its own definitions is another crate's here
-/^ghost use / { gsub("Rattle·" crate "·specs\\.specs\\.", "Rattle·" crate ".specs."); print; next }
-/^#\[no_mangle\]$/ { inside = 1; head = ""; print ""; print; next }
+/^ghost use / { print; next }
+/^#\[unsafe\(no_mangle\)\]$/ { inside = 1; head = ""; print ""; print; next }
 inside && /^\{$/ {
     name = head
     sub(/^pub extern "C" fn /, "", name)
