@@ -1,30 +1,48 @@
 // The desk program: reads a job from standard input, has it done, and writes its text to standard output.
 #![tactic(auto)]
 
+ghost use Rattle.std.specs.Prelude.{◌≤◌, IfOk, length};
+
 use fields::copying;
-use libc::{STDIN_FILENO, STDOUT_FILENO};
+use std::io;
+use std::io::{Read, Write};
 
 // Room for one byte more than a job may have, so that a longer one is seen to be longer.
 fn job_room() -> [u8; 16385] {
     [0; 16385]
 }
 
+// Reads until the room is full or the input ends, and says how many bytes were read.
+fn read_full<R: Read>(input: &mut R, room: &mut [u8]) -> io::Result<usize>
+    ensures { IfOk result (λ n. n ≤ length room.new) }
+{
+    let mut n = 0;
+    while n < room.len() {
+        let more = input.read(&mut room[n..])?;
+        if more == 0 {
+            break;
+        }
+        n += more;
+    }
+    Ok(n)
+}
+
 // The first n of the bytes.
-fn print(bytes: &[u8], n: usize) {
+fn print(rt: &impl Print, bytes: &[u8], n: usize) -> io::Result<()> {
     let from = 0;
     let to = copying::lesser(n, bytes.len());
-    io::write_all(STDOUT_FILENO, &bytes[from..to]);
+    io::writer(rt).write_all(&bytes[from..to])
 }
 
-fn answer(job: &[u8]) {
+fn answer(rt: &impl Print, job: &[u8]) -> io::Result<()> {
     let output = desk::do_job(job);
     let bytes = output.bytes;
-    print(&bytes, output.length);
+    print(rt, &bytes, output.length)
 }
 
-fn main() {
+fn main(rt: HostRuntime) -> io::Result<()> {
     let mut room = job_room();
-    let n = io::read_full(STDIN_FILENO, &mut room);
+    let n = read_full(&mut rt.reader(), &mut room)?;
     let from = 0;
-    answer(&room[from..n]);
+    answer(&rt, &room[from..n])
 }

@@ -3,39 +3,41 @@ use crate::printing;
 use cmdline::{Answer, Cmdline, DeviceId, Reply, Written};
 use fields::copying;
 use guest::{GuestAddress, maps};
+use std::io;
 
 // The first n bytes without the last, which is a line's zero.
-fn text(bytes: &[u8], n: usize) {
+fn text(rt: &impl Print, bytes: &[u8], n: usize) -> io::Result<()> {
     if n == 0 {
-        return;
+        return Ok(());
     }
     let from = 0;
     let to = copying::lesser(n - 1, bytes.len());
-    printing::word(b" ");
-    printing::word(&bytes[from..to]);
+    printing::word(rt, b" ")?;
+    printing::word(rt, &bytes[from..to])
 }
 
-fn print_written(written: Written, out: &[u8]) {
+fn print_written(rt: &impl Print, written: Written, out: &[u8]) -> io::Result<()> {
     match written {
-        Written::Refused(refusal) => printing::refusal(refusal),
-        Written::Bytes(n) => text(out, n),
+        Written::Refused(refusal) => printing::refusal(rt, refusal)?,
+        Written::Bytes(n) => text(rt, out, n)?,
     }
+    Ok(())
 }
 
-fn write(line: Cmdline, out: &mut [u8]) {
+fn write(rt: &impl Print, line: Cmdline, out: &mut [u8]) -> io::Result<()> {
     let written = line.as_cstring(out);
-    print_written(written, out);
+    print_written(rt, written, out)
 }
 
 // What a call answers, and the line after it.
-fn print_reply(reply: Reply) {
+fn print_reply(rt: &impl Print, reply: Reply) -> io::Result<()> {
     let mut out = [0u8; 80];
     let answer = reply.answer;
     match answer {
-        Answer::Refused(refusal) => printing::refusal(refusal),
-        Answer::Accepted => write(reply.line, &mut out),
+        Answer::Refused(refusal) => printing::refusal(rt, refusal)?,
+        Answer::Accepted => write(rt, reply.line, &mut out)?,
     }
-    printing::word(b"\n");
+    printing::word(rt, b"\n")
 }
 
 fn empty(capacity: usize) -> Cmdline {
@@ -48,9 +50,12 @@ fn of(text: &[u8]) -> Cmdline {
     reply.line
 }
 
-fn device(what: &[u8], size: u64, id: DeviceId) {
-    printing::word(what);
-    print_reply(empty(80).add_virtio_mmio_device(size, GuestAddress(4096), 5, id));
+fn device(rt: &impl Print, what: &[u8], size: u64, id: DeviceId) -> io::Result<()> {
+    printing::word(rt, what)?;
+    print_reply(
+        rt,
+        empty(80).add_virtio_mmio_device(size, GuestAddress(4096), 5, id),
+    )
 }
 
 fn foo_is_bar() -> Cmdline {
@@ -58,28 +63,29 @@ fn foo_is_bar() -> Cmdline {
     reply.line
 }
 
-fn equal(what: &[u8], a: &[u8], b: &[u8]) {
-    printing::word(what);
+fn equal(rt: &impl Print, what: &[u8], a: &[u8], b: &[u8]) -> io::Result<()> {
+    printing::word(rt, what)?;
     if of(a).eq(of(b)) {
-        printing::word(b" equal\n");
+        printing::word(rt, b" equal\n")?;
     } else {
-        printing::word(b" different\n");
+        printing::word(rt, b" different\n")?;
     }
+    Ok(())
 }
 
-fn capacity(what: &[u8], capacity: usize) {
-    printing::word(what);
+fn capacity(rt: &impl Print, what: &[u8], capacity: usize) -> io::Result<()> {
+    printing::word(rt, what)?;
     let reply = Cmdline::new(capacity);
     let answer = reply.answer;
     match answer {
-        Answer::Refused(refusal) => printing::refusal(refusal),
-        Answer::Accepted => printing::word(b" accepted"),
+        Answer::Refused(refusal) => printing::refusal(rt, refusal)?,
+        Answer::Accepted => printing::word(rt, b" accepted")?,
     }
-    printing::word(b"\n");
+    printing::word(rt, b"\n")
 }
 
-fn load(what: &[u8], guest: &mut [u8]) {
-    printing::word(what);
+fn load(rt: &impl Print, what: &[u8], guest: &mut [u8]) -> io::Result<()> {
+    printing::word(rt, what)?;
     let answer = loader::load_cmdline(
         guest,
         maps::whole(guest.len() as u64),
@@ -87,46 +93,54 @@ fn load(what: &[u8], guest: &mut [u8]) {
         foo_is_bar(),
     );
     match answer {
-        loader::Answer::Loaded => printing::word(b" loaded"),
-        loader::Answer::Refused(refusal) => printing::refusal(refusal),
+        loader::Answer::Loaded => printing::word(rt, b" loaded")?,
+        loader::Answer::Refused(refusal) => printing::refusal(rt, refusal)?,
     }
-    printing::guest(guest);
+    printing::guest(rt, guest)
 }
 
-fn load_into_12() {
+fn load_into_12(rt: &impl Print) -> io::Result<()> {
     let mut guest = [0u8; 12];
-    load(b"line foo=bar at 4, guest memory of 12 bytes:", &mut guest);
+    load(
+        rt,
+        b"line foo=bar at 4, guest memory of 12 bytes:",
+        &mut guest,
+    )
 }
 
-fn load_into_11() {
+fn load_into_11(rt: &impl Print) -> io::Result<()> {
     let mut guest = [0u8; 11];
-    load(b"line foo=bar at 4, guest memory of 11 bytes:", &mut guest);
+    load(
+        rt,
+        b"line foo=bar at 4, guest memory of 11 bytes:",
+        &mut guest,
+    )
 }
 
-fn short_output() {
+fn short_output(rt: &impl Print) -> io::Result<()> {
     let mut out = [0u8; 7];
-    printing::word(b"line foo=bar into 7 bytes:");
-    write(foo_is_bar(), &mut out);
-    printing::word(b"\n");
+    printing::word(rt, b"line foo=bar into 7 bytes:")?;
+    write(rt, foo_is_bar(), &mut out)?;
+    printing::word(rt, b"\n")
 }
 
-fn init_only() {
+fn init_only(rt: &impl Print) -> io::Result<()> {
     let mut out = [0u8; 8];
-    printing::word(b"line of init text only:");
-    write(of(b" -- z"), &mut out);
-    printing::word(b"\n");
+    printing::word(rt, b"line of init text only:")?;
+    write(rt, of(b" -- z"), &mut out)?;
+    printing::word(rt, b"\n")
 }
 
-pub(crate) fn print() {
-    device(b"device 4096, 4096, 5, 42:", 4096, DeviceId::Number(42));
-    device(b"device 4097, 4096, 5:", 4097, DeviceId::Nothing);
-    device(b"device 0, 4096, 5, 42:", 0, DeviceId::Number(42));
-    short_output();
-    init_only();
-    equal(b"lines of init text only:", b" -- y", b" -- z");
-    equal(b"lines with boot text:", b"a -- y", b"a -- z");
-    capacity(b"line of capacity 16384:", 16384);
-    capacity(b"line of capacity 16385:", 16385);
-    load_into_12();
-    load_into_11();
+pub(crate) fn print(rt: &impl Print) -> io::Result<()> {
+    device(rt, b"device 4096, 4096, 5, 42:", 4096, DeviceId::Number(42))?;
+    device(rt, b"device 4097, 4096, 5:", 4097, DeviceId::Nothing)?;
+    device(rt, b"device 0, 4096, 5, 42:", 0, DeviceId::Number(42))?;
+    short_output(rt)?;
+    init_only(rt)?;
+    equal(rt, b"lines of init text only:", b" -- y", b" -- z")?;
+    equal(rt, b"lines with boot text:", b"a -- y", b"a -- z")?;
+    capacity(rt, b"line of capacity 16384:", 16384)?;
+    capacity(rt, b"line of capacity 16385:", 16385)?;
+    load_into_12(rt)?;
+    load_into_11(rt)
 }

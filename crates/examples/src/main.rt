@@ -2,6 +2,8 @@
 // `cases`.
 #![tactic(auto)]
 
+use std::io;
+
 mod images;
 mod lines;
 mod loading;
@@ -11,11 +13,11 @@ mod starts;
 mod stepping;
 mod wording;
 
-fn main() {
-    loading::print();
-    stepping::print();
-    lines::print();
-    wording::print();
-    pages::print();
-    starts::print();
+fn main(rt: HostRuntime) -> io::Result<()> {
+    loading::print(&rt)?;
+    stepping::print(&rt)?;
+    lines::print(&rt)?;
+    wording::print(&rt)?;
+    pages::print(&rt)?;
+    starts::print(&rt)
 }

@@ -1,73 +1,66 @@
 // Texts, numbers, bytes and what a load answers, as they are printed.
 use answers::Refusal;
 use guest::{Answer, PvhBootCapability};
-use libc::STDOUT_FILENO;
+use std::io;
+use std::io::Write;
 
-pub(crate) fn word(text: &[u8]) {
-    io::write_all(STDOUT_FILENO, text);
+pub(crate) fn word(rt: &impl Print, text: &[u8]) -> io::Result<()> {
+    io::writer(rt).write_all(text)
 }
 
 // A space and a number.
-pub(crate) fn number(n: u64) {
-    word(b" ");
-    io::print_decimal(STDOUT_FILENO, n);
+pub(crate) fn number(rt: &impl Print, n: u64) -> io::Result<()> {
+    print!(rt; " {n}")
 }
 
-pub(crate) fn refusal(refusal: Refusal) {
-    word(b" refused");
-    number(answers::number(refusal) as u64);
-}
-
-fn hex_byte(byte: u8) {
-    io::print_hex(STDOUT_FILENO, byte as u64, 2);
+pub(crate) fn refusal(rt: &impl Print, refusal: Refusal) -> io::Result<()> {
+    word(rt, b" refused")?;
+    number(rt, answers::number(refusal) as u64)
 }
 
 // Two hexadecimal digits for each byte.
-fn hex(bytes: &[u8]) {
-    let mut i = 0;
-    while i < bytes.len() {
-        hex_byte(bytes[i]);
-        i += 1;
+fn hex(rt: &impl Print, bytes: &[u8]) -> io::Result<()> {
+    for byte in bytes {
+        print!(rt; "{byte:02x}")?;
     }
+    Ok(())
 }
 
 // Guest memory, which ends the line.
-pub(crate) fn guest(guest: &[u8]) {
-    word(b" guest ");
-    hex(guest);
-    word(b"\n");
+pub(crate) fn guest(rt: &impl Print, guest: &[u8]) -> io::Result<()> {
+    word(rt, b" guest ")?;
+    hex(rt, guest)?;
+    word(rt, b"\n")
 }
 
 // A space and a number, for each.
-pub(crate) fn list(list: &[u64]) {
-    let mut i = 0;
-    while i < list.len() {
-        number(list[i]);
-        i += 1;
+pub(crate) fn list(rt: &impl Print, list: &[u64]) -> io::Result<()> {
+    for n in list {
+        number(rt, *n)?;
     }
+    Ok(())
 }
 
-fn pvh(pvh: PvhBootCapability) {
+fn pvh(rt: &impl Print, pvh: PvhBootCapability) -> io::Result<()> {
     match pvh {
-        PvhBootCapability::PvhEntryIgnored => word(b" pvh ignored"),
-        PvhBootCapability::PvhEntryNotPresent => word(b" pvh none"),
+        PvhBootCapability::PvhEntryIgnored => word(rt, b" pvh ignored"),
+        PvhBootCapability::PvhEntryNotPresent => word(rt, b" pvh none"),
         PvhBootCapability::PvhEntryPresent(note) => {
-            word(b" pvh");
-            number(note.entry.0);
+            word(rt, b" pvh")?;
+            number(rt, note.entry.0)
         }
     }
 }
 
-pub(crate) fn answer(answer: Answer) {
+pub(crate) fn answer(rt: &impl Print, answer: Answer) -> io::Result<()> {
     match answer {
-        Answer::Refused(r) => refusal(r),
+        Answer::Refused(r) => refusal(rt, r),
         Answer::Loaded(kernel) => {
-            word(b" load");
-            number(kernel.kernel_load.0);
-            word(b" end");
-            number(kernel.kernel_end.0);
-            let cap = kernel.pvh_boot_cap;
-            pvh(cap);
+            word(rt, b" load")?;
+            number(rt, kernel.kernel_load.0)?;
+            word(rt, b" end")?;
+            number(rt, kernel.kernel_end.0)?;
+            pvh(rt, kernel.pvh_boot_cap)
         }
     }
 }

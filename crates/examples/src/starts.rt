@@ -4,22 +4,24 @@ use answers::Gate;
 use fields::numbers;
 use guest::{GuestAddress, maps};
 use start_info::Start;
+use std::io;
 
-fn print_block(guest: &[u8]) {
+fn print_block(rt: &impl Print, guest: &[u8]) -> io::Result<()> {
     let mut block = [0u64; 10];
     start_info::read_block(&mut block, guest, GuestAddress(0));
-    printing::list(&block);
+    printing::list(rt, &block)
 }
 
-fn check(guest: &[u8]) {
+fn check(rt: &impl Print, guest: &[u8]) -> io::Result<()> {
     let gate = start_info::check(guest, maps::whole(guest.len() as u64), GuestAddress(0));
     match gate {
         Gate::Open => {
-            printing::word(b" accepted");
-            print_block(guest);
+            printing::word(rt, b" accepted")?;
+            print_block(rt, guest)?;
         }
-        Gate::Shut(refusal) => printing::refusal(refusal),
+        Gate::Shut(refusal) => printing::refusal(rt, refusal)?,
     }
+    Ok(())
 }
 
 // A block at 0, its list of one module at an address, and the memory map of one row at 88.
@@ -41,43 +43,44 @@ fn write(guest: &mut [u8], modules: u64) -> Gate {
     )
 }
 
-fn write_and_check(guest: &mut [u8], modules: u64) {
+fn write_and_check(rt: &impl Print, guest: &mut [u8], modules: u64) -> io::Result<()> {
     let gate = write(guest, modules);
     match gate {
-        Gate::Shut(refusal) => printing::refusal(refusal),
-        Gate::Open => check(guest),
+        Gate::Shut(refusal) => printing::refusal(rt, refusal)?,
+        Gate::Open => check(rt, guest)?,
     }
-    printing::word(b"\n");
+    printing::word(rt, b"\n")
 }
 
 // Changed at one byte after it was written.
-fn write_and_change(guest: &mut [u8], at: u64) {
+fn write_and_change(rt: &impl Print, guest: &mut [u8], at: u64) -> io::Result<()> {
     write(guest, 56);
     numbers::put_le(guest, at, 1, 7);
-    check(guest);
-    printing::word(b"\n");
+    check(rt, guest)?;
+    printing::word(rt, b"\n")
 }
 
-fn written(what: &[u8], modules: u64) {
+fn written(rt: &impl Print, what: &[u8], modules: u64) -> io::Result<()> {
     let mut guest = [0u8; 112];
-    printing::word(what);
-    write_and_check(&mut guest, modules);
+    printing::word(rt, what)?;
+    write_and_check(rt, &mut guest, modules)
 }
 
-fn changed(what: &[u8], at: u64) {
+fn changed(rt: &impl Print, what: &[u8], at: u64) -> io::Result<()> {
     let mut guest = [0u8; 112];
-    printing::word(what);
-    write_and_change(&mut guest, at);
+    printing::word(rt, what)?;
+    write_and_change(rt, &mut guest, at)
 }
 
-pub(crate) fn print() {
-    written(b"start block, modules right after it:", 56);
-    written(b"start block, modules over its last byte:", 55);
-    written(b"start block, modules past guest memory:", 112);
-    changed(b"start block, magic changed:", 0);
+pub(crate) fn print(rt: &impl Print) -> io::Result<()> {
+    written(rt, b"start block, modules right after it:", 56)?;
+    written(rt, b"start block, modules over its last byte:", 55)?;
+    written(rt, b"start block, modules past guest memory:", 112)?;
+    changed(rt, b"start block, magic changed:", 0)?;
     changed(
+        rt,
         b"start block, a reserved byte of the memory map changed:",
         111,
-    );
-    changed(b"start block, flags changed:", 8);
+    )?;
+    changed(rt, b"start block, flags changed:", 8)
 }

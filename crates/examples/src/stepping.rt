@@ -3,29 +3,37 @@ use crate::{images, printing};
 use guest::{Given, maps};
 use loads::steps::{Reply, State};
 use loads::{Format, Options, steps};
+use std::io;
 
-fn reply(copied: u64, reply: Reply) {
+fn reply(rt: &impl Print, copied: u64, reply: Reply) -> io::Result<()> {
     match reply {
-        Reply::Refused(refusal) => printing::refusal(refusal),
+        Reply::Refused(refusal) => printing::refusal(rt, refusal)?,
         Reply::More => {
-            printing::number(copied);
-            printing::word(b" more");
+            printing::number(rt, copied)?;
+            printing::word(rt, b" more")?;
         }
         Reply::Answers(answer) => {
-            printing::number(copied);
-            printing::answer(answer);
+            printing::number(rt, copied)?;
+            printing::answer(rt, answer)?;
         }
     }
+    Ok(())
 }
 
-fn step(state: State, image: &[u8], guest: &mut [u8], budget: u64) -> State {
+fn step(
+    rt: &impl Print,
+    state: State,
+    image: &[u8],
+    guest: &mut [u8],
+    budget: u64,
+) -> io::Result<State> {
     let stepped = steps::step(guest, maps::whole(guest.len() as u64), image, state, budget);
     let said = stepped.reply;
-    printing::word(b" | budget");
-    printing::number(budget);
-    printing::word(b":");
-    reply(stepped.copied, said);
-    stepped.state
+    printing::word(rt, b" | budget")?;
+    printing::number(rt, budget)?;
+    printing::word(rt, b":")?;
+    reply(rt, stepped.copied, said)?;
+    Ok(stepped.state)
 }
 
 fn begin() -> State {
@@ -37,51 +45,52 @@ fn begin() -> State {
 }
 
 // Two calls that are no steps: with no budget, and with an image of another length.
-fn no_steps(state: State, image: &[u8], guest: &mut [u8]) -> State {
+fn no_steps(rt: &impl Print, state: State, image: &[u8], guest: &mut [u8]) -> io::Result<State> {
     let shorter = [0u8; 122];
-    let state = step(state, image, guest, 0);
-    step(state, &shorter, guest, 2)
+    let state = step(rt, state, image, guest, 0)?;
+    step(rt, state, &shorter, guest, 2)
 }
 
 // The step that answers, and one after it.
-fn last_steps(state: State, image: &[u8], guest: &mut [u8]) -> State {
-    let state = step(state, image, guest, 2);
-    step(state, image, guest, 2)
+fn last_steps(rt: &impl Print, state: State, image: &[u8], guest: &mut [u8]) -> io::Result<State> {
+    let state = step(rt, state, image, guest, 2)?;
+    step(rt, state, image, guest, 2)
 }
 
-fn twos(image: &[u8], guest: &mut [u8]) {
-    let state = step(begin(), image, guest, 2);
-    let state = no_steps(state, image, guest);
-    last_steps(state, image, guest);
+fn twos(rt: &impl Print, image: &[u8], guest: &mut [u8]) -> io::Result<()> {
+    let state = step(rt, begin(), image, guest, 2)?;
+    let state = no_steps(rt, state, image, guest)?;
+    last_steps(rt, state, image, guest)?;
+    Ok(())
 }
 
-fn in_twos(image: &mut [u8], guest: &mut [u8]) {
+fn in_twos(rt: &impl Print, image: &mut [u8], guest: &mut [u8]) -> io::Result<()> {
     images::put_elf(image);
-    printing::word(b"ELF in steps of 2 bytes");
-    twos(image, guest);
-    printing::guest(guest);
+    printing::word(rt, b"ELF in steps of 2 bytes")?;
+    twos(rt, image, guest)?;
+    printing::guest(rt, guest)
 }
 
-fn in_one(image: &mut [u8], guest: &mut [u8]) {
+fn in_one(rt: &impl Print, image: &mut [u8], guest: &mut [u8]) -> io::Result<()> {
     images::put_elf(image);
-    printing::word(b"ELF in one step");
-    step(begin(), image, guest, 3);
-    printing::guest(guest);
+    printing::word(rt, b"ELF in one step")?;
+    step(rt, begin(), image, guest, 3)?;
+    printing::guest(rt, guest)
 }
 
-fn print_in_twos() {
+fn print_in_twos(rt: &impl Print) -> io::Result<()> {
     let mut image = [0u8; 123];
     let mut guest = [0u8; 32];
-    in_twos(&mut image, &mut guest);
+    in_twos(rt, &mut image, &mut guest)
 }
 
-fn print_in_one() {
+fn print_in_one(rt: &impl Print) -> io::Result<()> {
     let mut image = [0u8; 123];
     let mut guest = [0u8; 32];
-    in_one(&mut image, &mut guest);
+    in_one(rt, &mut image, &mut guest)
 }
 
-pub(crate) fn print() {
-    print_in_twos();
-    print_in_one();
+pub(crate) fn print(rt: &impl Print) -> io::Result<()> {
+    print_in_twos(rt)?;
+    print_in_one(rt)
 }

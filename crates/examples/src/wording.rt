@@ -1,47 +1,60 @@
 // The words of a line: the start, end and split of each.
 use crate::printing;
 use answers::Refusal;
+use std::io;
 use words::Answer;
 
-fn print_told(told: Answer, starts: &[u64], ends: &[u64], splits: &[u64]) {
+fn print_told(
+    rt: &impl Print,
+    told: Answer,
+    starts: &[u64],
+    ends: &[u64],
+    splits: &[u64],
+) -> io::Result<()> {
     match told {
         Answer::UnclosedQuote(at) => {
-            printing::refusal(Refusal::UnclosedQuote);
-            printing::word(b" at");
-            printing::number(at as u64);
+            printing::refusal(rt, Refusal::UnclosedQuote)?;
+            printing::word(rt, b" at")?;
+            printing::number(rt, at as u64)?;
         }
-        Answer::TooFewPlaces => printing::refusal(Refusal::TooFewPlaces),
+        Answer::TooFewPlaces => printing::refusal(rt, Refusal::TooFewPlaces)?,
         Answer::Words(n) => {
-            printing::number(n as u64);
-            printing::word(b" words, starts");
-            printing::list(starts);
-            printing::word(b" ends");
-            printing::list(ends);
-            printing::word(b" splits");
-            printing::list(splits);
+            printing::number(rt, n as u64)?;
+            printing::word(rt, b" words, starts")?;
+            printing::list(rt, starts)?;
+            printing::word(rt, b" ends")?;
+            printing::list(rt, ends)?;
+            printing::word(rt, b" splits")?;
+            printing::list(rt, splits)?;
         }
     }
-    printing::word(b"\n");
+    printing::word(rt, b"\n")
 }
 
-fn read_into(line: &[u8], starts: &mut [u64], ends: &mut [u64], splits: &mut [u64]) {
+fn read_into(
+    rt: &impl Print,
+    line: &[u8],
+    starts: &mut [u64],
+    ends: &mut [u64],
+    splits: &mut [u64],
+) -> io::Result<()> {
     let told = words::read(line, starts, ends, splits);
-    print_told(told, starts, ends, splits);
+    print_told(rt, told, starts, ends, splits)
 }
 
-fn read(line: &[u8]) {
+fn read(rt: &impl Print, line: &[u8]) -> io::Result<()> {
     let mut starts = [99u64; 3];
     let mut ends = [99u64; 3];
     let mut splits = [99u64; 3];
-    printing::word(b"words of ");
-    printing::word(line);
-    printing::word(b" into lists of 3:");
-    read_into(line, &mut starts, &mut ends, &mut splits);
+    printing::word(rt, b"words of ")?;
+    printing::word(rt, line)?;
+    printing::word(rt, b" into lists of 3:")?;
+    read_into(rt, line, &mut starts, &mut ends, &mut splits)
 }
 
-pub(crate) fn print() {
-    read(b"a=\"x y\"  \"b=c\"=d quiet");
-    read(b"root=/dev/sda1 ro");
-    read(b"a \"b");
-    read(b"a b c d");
+pub(crate) fn print(rt: &impl Print) -> io::Result<()> {
+    read(rt, b"a=\"x y\"  \"b=c\"=d quiet")?;
+    read(rt, b"root=/dev/sda1 ro")?;
+    read(rt, b"a \"b")?;
+    read(rt, b"a b c d")
 }

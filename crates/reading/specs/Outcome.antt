@@ -1,4 +1,4 @@
--- One outcome, for a function that is proved by hand: what is said of its own clauses, which need not be facts of its arguments alone.
+-- One outcome, for a function over a reader: what is said of its own clauses, which need not be facts of its arguments alone.
 use Rattle.std.specs.Prelude.{◌≡◌}
 use seplogic.Ra.Ura.{Ura}
 use base.Logic.{ent, sep}

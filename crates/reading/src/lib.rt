@@ -1,5 +1,5 @@
 // A reader that keeps the image and its place together. Its functions are thin: each takes the reader apart and leaves the work to a
-// function over a slice and a place. They are proved by hand; whoever reads by `notes` needs no reader of their own.
+// function over a slice and a place. Whoever reads by `notes` needs no reader of their own.
 #![tactic(auto)]
 
 ghost use Rattle.std.specs.Prelude.{◌≡◌};
