@@ -2,7 +2,7 @@
    the proved crates in crates/ of the repository. tools/make-dist writes it; do not edit it: ./test makes it again and
    fails if a byte differs.
 
-   sources: 15501c4d2cce34dbc7865fd0fed77d24b69cb0b7eb24d8f209459cd1b6d53a61
+   sources: aa98d1f84f05b5ac115e13a213465170212479075cd5155ea00ac33b409e223f
    kit: rattle-kit-13f logic dac8208d650f15bf
 
    The sources are the crates capi capi_lines capi_pages capi_boot capi_jobs, and those below them. The code calls memcpy, memmove and
