@@ -29,7 +29,7 @@ compare images FILE..     loads real images by everyone and compares
 --desk 'PROGRAM WORD..'   the desk program, which is started for each job; without it jobs are asked of nobody
 ";
 
-/// How many random questions are asked if nothing else is said. A job starts a program, under an emulator on Arm.
+/// How many random questions are asked if nothing else is said. A job starts a program.
 const RANDOM: [u64; Area::COUNT] = [
     600_000, 200_000, 300_000, 200_000, 100_000, 100_000, 60_000, 80_000, 200_000, 150_000, 500,
     100_000,
