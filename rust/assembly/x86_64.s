@@ -2,7 +2,7 @@
    the proved crates in crates/ of the repository. tools/make-dist writes it; do not edit it: ./test makes it again and
    fails if a byte differs.
 
-   sources: aa98d1f84f05b5ac115e13a213465170212479075cd5155ea00ac33b409e223f
+   sources: dc09bb1b0784929f7326fbaf647fda7023a2ab430e9d469e0196f5ee796966a4
    kit: rattle-kit-13f logic dac8208d650f15bf
 
    The sources are the crates capi capi_lines capi_pages capi_boot capi_jobs, and those below them. The code calls memcpy, memmove and

@@ -3,7 +3,7 @@
 
 use rekusoyen::{entry, Refusal};
 
-/// The definition that the proved code meets: a line for each refusal, `numberOf refusal.NAME = NUMBER`.
+/// The definition that the proved code meets: a line for each refusal, `number_of refusal.NAME = NUMBER`.
 const CATALOGUE: &str = include_str!("../../crates/answers/specs/Catalogue.antt");
 
 const HEADER: &str = include_str!("../../c/rekusoyen.h");

@@ -1,5 +1,5 @@
 -- "After an accepted ELF load each guest byte is the file byte of the last loadable segment whose file bytes cover it, or is
--- untouched": byte-rule.
+-- untouched": byte_rule.
 use Prim.Native.Nat.{ℕ, zero, suc, ◌+◌, ◌-◌, ◌≤◌, ◌<◌}
 use mathlib.Core.Path.{◌≡◌, sym, ◌∙◌, refl, subst, subst⁻¹}
 use mathlib.Core.List.{List}

@@ -1,5 +1,5 @@
--- "A load answers with success exactly when every rule holds for every header, whichever order they are asked in": rules-accept and
--- accept-rules.
+-- "A load answers with success exactly when every rule holds for every header, whichever order they are asked in": rules_accept and
+-- accept_rules.
 use Prim.Native.Nat.{ℕ, zero, suc, ◌<◌}
 use mathlib.Core.Path.{◌≡◌, refl, subst⁻¹}
 use mathlib.Core.Bool.{Bool, true, false}

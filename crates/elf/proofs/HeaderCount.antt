@@ -1,4 +1,4 @@
--- "The note walk reads never more than one header for each twelve bytes begun of `p_filesz`": few-headers, of the count that the public
+-- "The note walk reads never more than one header for each twelve bytes begun of `p_filesz`": few_headers, of the count that the public
 -- walk answers.
 use Prim.Native.Nat.{ℕ, zero, suc, ◌+◌, ◌≤◌}
 use mathlib.Core.List.{List}

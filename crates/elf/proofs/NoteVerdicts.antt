@@ -1,5 +1,5 @@
--- "A number is given exactly when its turn comes and its condition holds", for the note walk: note-verdict says which rule decides the
--- public walk's answer and count, and verdict-decides that each rule, where its turn comes, decides.
+-- "A number is given exactly when its turn comes and its condition holds", for the note walk: note_verdict says which rule decides the
+-- public walk's answer and count, and verdict_decides that each rule, where its turn comes, decides.
 use Prim.Native.Nat.{ℕ, zero, suc, ◌+◌, ◌*◌, ◌-◌, ◌≤◌, ◌<◌}
 use mathlib.Core.Path.{◌≡◌, sym, ◌∙◌, refl, ap, subst⁻¹}
 use mathlib.Core.Bool.{Bool, true, false}

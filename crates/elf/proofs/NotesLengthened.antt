@@ -1,5 +1,5 @@
--- "The note walk over a longer image keeps its answer and its count, unless it was refused for missing bytes": note-longer, of the public
--- walk within the size limit. A load over a longer image cites entry-longer.
+-- "The note walk over a longer image keeps its answer and its count, unless it was refused for missing bytes": note_longer, of the public
+-- walk within the size limit. A load over a longer image cites entry_longer.
 use Prim.Native.Nat.{ℕ, zero, suc, ◌+◌, ◌≤◌}
 use mathlib.Core.Path.{◌≡◌, ◌∙◌, refl, ap}
 use mathlib.Core.Bool.{Bool, true, false}
