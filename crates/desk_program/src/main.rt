@@ -1,7 +1,8 @@
 // The desk program: reads a job from standard input, has it done, and writes its text to standard output.
 #![tactic(auto)]
 
-ghost use Rattle.std.specs.Prelude.{◌≤◌, IfOk, length};
+ghost use Rattle.std.specs.Prelude.{◌<◌, ◌≤◌, IfOk, length, take};
+ghost use Rattle.std.specs.Io.KnownBytes.{Consumes, IsAtEnd};
 
 use fields::copying;
 use std::io;
@@ -12,15 +13,18 @@ fn job_room() -> [u8; 16385] {
     [0; 16385]
 }
 
-// Reads until the room is full or the input ends, and says how many bytes were read.
+// Reads until the room is full or the input ends, and says how many bytes were read: the first of the room are those that
+// the input no longer has, and where the room is not full the input has none left.
 fn read_full<R: Read>(input: &mut R, room: &mut [u8]) -> io::Result<usize>
-    ensures { IfOk result (λ n. n ≤ length room.new) }
+    ensures bound { IfOk result (λ n. n ≤ length room.new) }
+    ensures bytes { IfOk result (λ n. Consumes (R.remaining input.old) (R.remaining input.new) (take n room.new)) }
+    ensures whole { IfOk result (λ n. n < length room.new → IsAtEnd (R.remaining input.new)) }
 {
     let mut n = 0;
     while n < room.len() {
         let more = input.read(&mut room[n..])?;
         if more == 0 {
-            break;
+            return Ok(n);
         }
         n += more;
     }

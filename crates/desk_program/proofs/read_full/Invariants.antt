@@ -1,9 +1,12 @@
--- What is read fits in the room, whose size stays.
-use Rattle.std.proofs.Common.{length, ◌-◌, ◌≤◌}
+-- What is read so far is the front of the room, and fits in it.
+use Rattle.std.proofs.Common.{◌≡◌, ◌-◌, ◌≤◌, length, take}
+use Rattle.std.specs.Io.KnownBytes.{Consumes}
 use Rattle.desk_program.proofs.read_full.Given as goal
 
 abbrev pub invariant-loop-n : goal.invariant-loop-n
-invariant-loop-n g l = l.n ≤ length l.room
+invariant-loop-n g l =
+    (length l.room ≡ length l.initial.room) × (l.n ≤ length l.room)
+    × Consumes (g.R.Read.remaining l.initial.input) (g.R.Read.remaining l.input) (take l.n l.room)
 
 abbrev pub decreases-loop-n : goal.decreases-loop-n
 decreases-loop-n g l = length l.initial.room - l.n
