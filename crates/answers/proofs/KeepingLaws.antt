@@ -7,10 +7,9 @@ use native.Mathlib.Omega.{arith}
 use borrow.Author.Tests.{leb-true, le-leb}
 use lib.Dec.{leb}
 use Rattle.answers.specs.Pick.{pick}
-use Rattle.answers.specs.Tests.{Test, asked_all, AllHold}
+use Rattle.answers.specs.Tests.{Test, asked_all, AllHold, pass}
 use Rattle.answers.specs.Keeping.{Keeps, same, lifted, ShutBy, shut_by}
 use Rattle.answers.specs.declared.Refusal.{Refusal}
-use Rattle.answers.specs.declared.Gate.TheVariants.{Open}
 use Rattle.answers.proofs.TestsLaws.{first_held, first_failed, by_first}
 
 module _ {A : Type 0} (Lifts : A → Type 0) where
@@ -58,9 +57,9 @@ pub data Widens (Lifts : Refusal → Type 0) : List Test → List Test → Type 
   grows : {b b' : Bool} {refusal : Refusal} {ts ts' : List Test} → (b ≡ true → b' ≡ true) → Lifts refusal → (b ≡ true → Widens Lifts ts ts')
       → Widens Lifts ((b, refusal) ∷ ts) ((b', refusal) ∷ ts')
 
--- a row that widens: the gate is kept
+-- a row that widens: its result is kept
 module _ (Lifts : Refusal → Type 0) where
-  pub row_keeps : {ts ts' : List Test} → Widens Lifts ts ts' → Keeps (ShutBy Lifts) (asked_all Open ts) (asked_all Open ts')
+  pub row_keeps : {ts ts' : List Test} → Widens Lifts ts ts' → Keeps (ShutBy Lifts) (asked_all pass ts) (asked_all pass ts')
   row_keeps end = same
   row_keeps (stays {b} {b'} {refusal} {ts} {ts'} e rest) =
       by_first (b, refusal) ts

@@ -1,36 +1,36 @@
--- A row of tests, read without its order of work: it stays open exactly where every test holds, and is shut exactly by the refusal of
--- the first test that fails. This is the sentence "a number is given exactly when its turn comes and its condition holds".
+-- A row of tests, read without its order of work: it passes exactly if every test holds, and it refuses exactly with
+-- the refusal of the first test that fails. This is the sentence "a number is given exactly when its turn comes and its
+-- condition holds".
+use Rattle.std.specs.Prelude.{Ok, Err}
 use Prim.Native.Nat.{ℕ}
 use mathlib.Core.Path.{◌≡◌, sym, ◌∙◌, refl, ap}
 use mathlib.Core.Bool.{Bool, true, false}
 use mathlib.Core.List.{List, [], ◌∷◌, ◌++◌}
 use native.Mathlib.Omega.{arith}
 use Rattle.answers.specs.Pick.{pick}
-use Rattle.answers.specs.Tests.{Test, asked, asked_all, AllHold, FirstFails, here, later}
+use Rattle.answers.specs.Tests.{Test, asked, asked_all, AllHold, FirstFails, here, later, Check, pass}
 use Rattle.answers.specs.declared.Refusal.{Refusal}
-use Rattle.answers.specs.declared.Gate.{Gate}
-use Rattle.answers.specs.declared.Gate.TheVariants.{Open, Shut}
 
--- a gate that is shut stays so
-pub shut_stays : (ts : List Test) (refusal : Refusal) → asked_all (Shut refusal) ts ≡ Shut refusal
+-- tests that have refused refuse with the same refusal, whatever comes after
+pub shut_stays : (ts : List Test) (refusal : Refusal) → asked_all (Err refusal) ts ≡ Err refusal
 unfolding asked
 shut_stays [] refusal = refl
 shut_stays (t ∷ ts) refusal = shut_stays ts refusal
 
 -- the first test of a row, where it holds and where it fails
-pub first_held : (t : Test) (ts : List Test) → t.0 ≡ true → asked_all Open (t ∷ ts) ≡ asked_all Open ts
+pub first_held : (t : Test) (ts : List Test) → t.0 ≡ true → asked_all pass (t ∷ ts) ≡ asked_all pass ts
 unfolding asked pick
 first_held t ts e = rw e
 
 -- a test that holds changes nothing
-pub holds_passed : (gate : Gate) (refusal : Refusal) → asked gate true refusal ≡ gate
+pub holds_passed : (gate : Check) (refusal : Refusal) → asked gate true refusal ≡ gate
 unfolding asked pick
-holds_passed Open refusal = refl
-holds_passed (Shut first) refusal = refl
+holds_passed (Ok _) refusal = refl
+holds_passed (Err first) refusal = refl
 
-pub first_failed : (t : Test) (ts : List Test) → t.0 ≡ false → asked_all Open (t ∷ ts) ≡ Shut t.1
+pub first_failed : (t : Test) (ts : List Test) → t.0 ≡ false → asked_all pass (t ∷ ts) ≡ Err t.1
 unfolding asked pick
-first_failed t ts e = ap (λ b. asked_all (asked Open b t.1) ts) e ∙ shut_stays ts t.1
+first_failed t ts e = ap (λ b. asked_all (asked pass b t.1) ts) e ∙ shut_stays ts t.1
 
 -- what is told of a row, by its first test
 module _ {P : Type 0} (t : Test) (ts : List Test) where
@@ -41,38 +41,38 @@ module _ {P : Type 0} (t : Test) (ts : List Test) where
   pub by_first : (t.0 ≡ true → P) → (t.0 ≡ false → P) → P
   by_first = split t.0 refl
 
-open_not_shut : {refusal : Refusal} → Shut refusal ≡ Open → ⊥
+open_not_shut : {refusal : Refusal} → Err refusal ≡ pass → ⊥
 open_not_shut e = let w : ◌≡◌ {A = ℕ} 0 1 = cc in omega arith
 
-same_refusal : {r s : Refusal} → Shut r ≡ Shut s → r ≡ s
+same_refusal : {r s : Refusal} → ◌≡◌ {A = Check} (Err r) (Err s) → r ≡ s
 same_refusal e = cc
 
--- ---- open exactly where every test holds
+-- ---- it passes exactly if every test holds
 
-pub open_all : (ts : List Test) → asked_all Open ts ≡ Open → AllHold ts
+pub open_all : (ts : List Test) → asked_all pass ts ≡ pass → AllHold ts
 open_all [] e = tt
 open_all (t ∷ ts) e =
     by_first t ts (λ h. (h, open_all ts (sym (first_held t ts h) ∙ e))) (λ f. absurd (open_not_shut (sym (first_failed t ts f) ∙ e)))
 
-pub all_open : (ts : List Test) → AllHold ts → asked_all Open ts ≡ Open
+pub all_open : (ts : List Test) → AllHold ts → asked_all pass ts ≡ pass
 all_open [] h = refl
 all_open (t ∷ ts) h = first_held t ts h.0 ∙ all_open ts h.1
 
--- ---- shut exactly by the first that fails
+-- ---- it refuses exactly with the first that fails
 
-pub shut_first : (ts : List Test) (refusal : Refusal) → asked_all Open ts ≡ Shut refusal → FirstFails refusal ts
+pub shut_first : (ts : List Test) (refusal : Refusal) → asked_all pass ts ≡ Err refusal → FirstFails refusal ts
 shut_first [] refusal e = absurd (open_not_shut (sym e))
 shut_first (t ∷ ts) refusal e =
     by_first t ts (λ h. later h (shut_first ts refusal (sym (first_held t ts h) ∙ e))) (λ f. here f (same_refusal (sym (first_failed t ts f) ∙ e)))
 
-pub first_shut : (ts : List Test) (refusal : Refusal) → FirstFails refusal ts → asked_all Open ts ≡ Shut refusal
+pub first_shut : (ts : List Test) (refusal : Refusal) → FirstFails refusal ts → asked_all pass ts ≡ Err refusal
 first_shut [] refusal x' = elim x' [ ]
-first_shut (t ∷ ts) refusal (here f e) = first_failed t ts f ∙ ap Shut e
+first_shut (t ∷ ts) refusal (here f e) = first_failed t ts f ∙ ap Err e
 first_shut (t ∷ ts) refusal (later h rest) = first_held t ts h ∙ first_shut ts refusal rest
 
 -- ---- one row after another
 
-pub asked_append : (gate : Gate) (ts us : List Test) → asked_all gate (ts ++ us) ≡ asked_all (asked_all gate ts) us
+pub asked_append : (gate : Check) (ts us : List Test) → asked_all gate (ts ++ us) ≡ asked_all (asked_all gate ts) us
 asked_append gate [] us = refl
 asked_append gate (t ∷ ts) us = asked_append (asked gate t.0 t.1) ts us
 

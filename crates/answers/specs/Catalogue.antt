@@ -1,7 +1,9 @@
 -- The catalogue: the number of each refusal.
-use Rattle.std.specs.Prelude.{ℕ}
+use Rattle.std.specs.Prelude.{ℕ, ◌≡◌, ◌≢◌, Result, Ok, Err, MatchResult}
+use Rattle.answers.specs.Tests.{Check}
 use Rattle.answers.specs.declared.Refusal.{Refusal}
 use Rattle.answers.specs.declared.Refusal.TheVariants as refusal
+use Rattle.answers.specs.declared.UnknownNumber.{UnknownNumber}
 
 abbrev pub number_of : Refusal → ℕ
 number_of refusal.InvalidElfMagicNumber = 1
@@ -77,3 +79,14 @@ number_of refusal.RamdiskMeetsBootData = 105
 number_of refusal.KernelNotInRows = 106
 number_of refusal.LineNotInRows = 107
 number_of refusal.RamdiskNotInRows = 108
+
+-- the refusal of a number, or that no refusal has it
+abbrev pub HasNumber : ℕ → Result Refusal UnknownNumber → Type 0
+HasNumber n r =
+    MatchResult r (λ refusal. number_of refusal ≡ n)
+    (λ unknown. (unknown.0 ≡ n) × ((refusal : Refusal) → number_of refusal ≢ n))
+
+-- the number of what tests answer: the refusal's, and 0 if none refused
+abbrev pub check_number : Check → ℕ
+check_number (Ok _) = 0
+check_number (Err r) = number_of r

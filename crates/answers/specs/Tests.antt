@@ -1,28 +1,28 @@
 -- Tests in order, of which the first that fails refuses.
-use Rattle.std.specs.Prelude.{◌≡◌, Bool, true, false, List, [], ◌∷◌}
+use Rattle.std.specs.Prelude.{◌≡◌, Bool, true, false, List, [], ◌∷◌, Result, Ok, Err}
 use Rattle.answers.specs.Pick.{pick}
 use Rattle.answers.specs.declared.Refusal.{Refusal}
-use Rattle.answers.specs.declared.Gate.{Gate}
-use Rattle.answers.specs.declared.Gate.TheVariants.{Open, Shut}
 
 -- a test, and what is answered where it fails
 abbrev pub Test : Type 0
 Test = Bool × Refusal
 
--- one more test, where none before it refused
-unfoldable pub asked : Gate → Bool → Refusal → Gate
-asked Open ok refusal = pick ok Open (Shut refusal)
-asked (Shut first) ok refusal = Shut first
+-- what tests answer: that none refused, or the refusal of the first that did
+abbrev pub Check : Type 0
+Check = Result (Unit {0}) Refusal
 
--- did no test refuse?
-unfoldable pub is_open : Gate → Bool
-is_open Open = true
-is_open (Shut refusal) = false
+abbrev pub pass : Check
+pass = Ok tt
+
+-- one more test, if none before it refused
+unfoldable pub asked : Check → Bool → Refusal → Check
+asked (Ok _) ok refusal = pick ok pass (Err refusal)
+asked (Err first) ok refusal = Err first
 
 -- a row of tests, in order
-abbrev pub asked_all : Gate → List Test → Gate
-asked_all gate [] = gate
-asked_all gate (t ∷ ts) = asked_all (asked gate t.0 t.1) ts
+abbrev pub asked_all : Check → List Test → Check
+asked_all check [] = check
+asked_all check (t ∷ ts) = asked_all (asked check t.0 t.1) ts
 
 -- every test of the row holds
 abbrev pub AllHold : List Test → Type 0

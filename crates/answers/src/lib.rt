@@ -1,206 +1,206 @@
 // Every answer that is a refusal, and the order in which tests refuse.
-#![tactic(auto)]
+#![tactic(auto, unfolding(crate::specs::Pick::pick, crate::specs::Tests::asked))]
 
 ghost use Rattle.std.specs.Prelude.{◌≡◌};
-ghost use Rattle.answers.specs.Catalogue.{number_of};
-ghost use Rattle.answers.specs.Tests.{asked, is_open};
+ghost use Rattle.answers.specs.Catalogue.{number_of, HasNumber};
+ghost use Rattle.answers.specs.Tests.{pass, asked};
 
-// Every refusal, by name. Its number is `number`'s to say; the C header and the Rust crate repeat it, and are tested to say the same.
-#[derive(Clone, Copy)]
+// Every refusal, by name and number. `u32::from` gives the number; the C header and the Rust crate repeat it, and are
+// tested to have the same.
+#[derive(Clone, Copy, Debug, PartialEq, Eq)]
 pub enum Refusal {
     // ELF
-    InvalidElfMagicNumber,
-    BigEndianElfOnLittle,
-    InvalidProgramHeaderSize,
-    InvalidProgramHeaderOffset,
-    InvalidEntryAddress,
-    Overflow,
-    ReadElfHeader,
-    ReadProgramHeader,
-    InvalidProgramHeaderAddress,
-    ReadKernelImage,
-    ReadNoteHeader,
-    InvalidPvhNote,
-    MemoryOverflow,
-    InvalidProgramHeaderFileSize,
+    InvalidElfMagicNumber = 1,
+    BigEndianElfOnLittle = 2,
+    InvalidProgramHeaderSize = 3,
+    InvalidProgramHeaderOffset = 4,
+    InvalidEntryAddress = 5,
+    Overflow = 6,
+    ReadElfHeader = 7,
+    ReadProgramHeader = 8,
+    InvalidProgramHeaderAddress = 9,
+    ReadKernelImage = 10,
+    ReadNoteHeader = 11,
+    InvalidPvhNote = 12,
+    MemoryOverflow = 13,
+    InvalidProgramHeaderFileSize = 14,
     // bzImage
-    InvalidBzImage,
-    Underflow,
-    InvalidKernelStartAddress,
-    ReadBzImageCompressedKernel,
+    InvalidBzImage = 21,
+    Underflow = 22,
+    InvalidKernelStartAddress = 23,
+    ReadBzImageCompressedKernel = 24,
     // a line put into guest memory
-    InvalidCommandLine,
-    CommandLineOverflow,
+    InvalidCommandLine = 31,
+    CommandLineOverflow = 32,
     // a line built
-    InvalidCapacity,
-    InvalidAscii,
-    HasSpace,
-    HasEquals,
-    MissingVal,
-    MmioSize,
-    TooLarge,
-    NoQuoteSpace,
-    InvalidQuote,
+    InvalidCapacity = 41,
+    InvalidAscii = 42,
+    HasSpace = 43,
+    HasEquals = 44,
+    MissingVal = 45,
+    MmioSize = 46,
+    TooLarge = 47,
+    NoQuoteSpace = 48,
+    InvalidQuote = 49,
     // a line written
-    NoBootArgsInserted,
-    NullTerminator,
-    // added to the crate's own: limits of what is lent
-    SliceTooLong,
-    BadList,
-    NoRoom,
+    NoBootArgsInserted = 50,
+    NullTerminator = 51,
+    // not in linux-loader: limits of the caller's slices and lists
+    SliceTooLong = 60,
+    BadList = 61,
+    NoRoom = 62,
     // a load in steps
-    NoBudget,
-    LentChanged,
+    NoBudget = 63,
+    LentChanged = 64,
     // a job of the desk program
-    BadJob,
+    BadJob = 70,
     // the words of a line
-    UnclosedQuote,
-    TooFewPlaces,
+    UnclosedQuote = 71,
+    TooFewPlaces = 72,
     // the boot page
-    BadPageSize,
-    TooManyRows,
-    BadRow,
+    BadPageSize = 73,
+    TooManyRows = 74,
+    BadRow = 75,
     // the PVH start block
-    BadPart,
+    BadPart = 76,
     // guest memory
-    BadMap,
-    BadStartMagic,
-    BadStartVersion,
-    BadStartReserved,
+    BadMap = 77,
+    BadStartMagic = 78,
+    BadStartVersion = 79,
+    BadStartReserved = 80,
     // arm64
-    ShortImage,
-    BadImageMagic,
-    BigEndianImage,
-    NoImageSize,
-    UnalignedBase,
-    ImageStartWraps,
-    NoRoomForImage,
-    ImageEndWraps,
+    ShortImage = 81,
+    BadImageMagic = 82,
+    BigEndianImage = 83,
+    NoImageSize = 84,
+    UnalignedBase = 85,
+    ImageStartWraps = 86,
+    NoRoomForImage = 87,
+    ImageEndWraps = 88,
     // a whole boot
-    LineTooLong,
-    WrongEntry,
-    No64BitEntry,
-    NoPvhEntry,
-    LineNotInTree,
-    KernelOutside,
-    RamdiskOutside,
-    BootDataOutside,
-    RamdiskTooHigh,
-    KernelMeetsLine,
-    KernelMeetsRamdisk,
-    KernelMeetsBootData,
-    LineMeetsRamdisk,
-    LineMeetsBootData,
-    RamdiskMeetsBootData,
-    KernelNotInRows,
-    LineNotInRows,
-    RamdiskNotInRows,
+    LineTooLong = 91,
+    WrongEntry = 92,
+    No64BitEntry = 93,
+    NoPvhEntry = 94,
+    LineNotInTree = 95,
+    KernelOutside = 96,
+    RamdiskOutside = 97,
+    BootDataOutside = 98,
+    RamdiskTooHigh = 99,
+    KernelMeetsLine = 100,
+    KernelMeetsRamdisk = 101,
+    KernelMeetsBootData = 102,
+    LineMeetsRamdisk = 103,
+    LineMeetsBootData = 104,
+    RamdiskMeetsBootData = 105,
+    KernelNotInRows = 106,
+    LineNotInRows = 107,
+    RamdiskNotInRows = 108,
 }
 
 // The number of a refusal, for callers that take numbers.
-pub fn number(refusal: Refusal) -> u32
-    ensures { result ≡ number_of refusal }
-{
-    match refusal {
-        Refusal::InvalidElfMagicNumber => 1,
-        Refusal::BigEndianElfOnLittle => 2,
-        Refusal::InvalidProgramHeaderSize => 3,
-        Refusal::InvalidProgramHeaderOffset => 4,
-        Refusal::InvalidEntryAddress => 5,
-        Refusal::Overflow => 6,
-        Refusal::ReadElfHeader => 7,
-        Refusal::ReadProgramHeader => 8,
-        Refusal::InvalidProgramHeaderAddress => 9,
-        Refusal::ReadKernelImage => 10,
-        Refusal::ReadNoteHeader => 11,
-        Refusal::InvalidPvhNote => 12,
-        Refusal::MemoryOverflow => 13,
-        Refusal::InvalidProgramHeaderFileSize => 14,
-        Refusal::InvalidBzImage => 21,
-        Refusal::Underflow => 22,
-        Refusal::InvalidKernelStartAddress => 23,
-        Refusal::ReadBzImageCompressedKernel => 24,
-        Refusal::InvalidCommandLine => 31,
-        Refusal::CommandLineOverflow => 32,
-        Refusal::InvalidCapacity => 41,
-        Refusal::InvalidAscii => 42,
-        Refusal::HasSpace => 43,
-        Refusal::HasEquals => 44,
-        Refusal::MissingVal => 45,
-        Refusal::MmioSize => 46,
-        Refusal::TooLarge => 47,
-        Refusal::NoQuoteSpace => 48,
-        Refusal::InvalidQuote => 49,
-        Refusal::NoBootArgsInserted => 50,
-        Refusal::NullTerminator => 51,
-        Refusal::SliceTooLong => 60,
-        Refusal::BadList => 61,
-        Refusal::NoRoom => 62,
-        Refusal::NoBudget => 63,
-        Refusal::LentChanged => 64,
-        Refusal::BadJob => 70,
-        Refusal::UnclosedQuote => 71,
-        Refusal::TooFewPlaces => 72,
-        Refusal::BadPageSize => 73,
-        Refusal::TooManyRows => 74,
-        Refusal::BadRow => 75,
-        Refusal::BadPart => 76,
-        Refusal::BadMap => 77,
-        Refusal::BadStartMagic => 78,
-        Refusal::BadStartVersion => 79,
-        Refusal::BadStartReserved => 80,
-        Refusal::ShortImage => 81,
-        Refusal::BadImageMagic => 82,
-        Refusal::BigEndianImage => 83,
-        Refusal::NoImageSize => 84,
-        Refusal::UnalignedBase => 85,
-        Refusal::ImageStartWraps => 86,
-        Refusal::NoRoomForImage => 87,
-        Refusal::ImageEndWraps => 88,
-        Refusal::LineTooLong => 91,
-        Refusal::WrongEntry => 92,
-        Refusal::No64BitEntry => 93,
-        Refusal::NoPvhEntry => 94,
-        Refusal::LineNotInTree => 95,
-        Refusal::KernelOutside => 96,
-        Refusal::RamdiskOutside => 97,
-        Refusal::BootDataOutside => 98,
-        Refusal::RamdiskTooHigh => 99,
-        Refusal::KernelMeetsLine => 100,
-        Refusal::KernelMeetsRamdisk => 101,
-        Refusal::KernelMeetsBootData => 102,
-        Refusal::LineMeetsRamdisk => 103,
-        Refusal::LineMeetsBootData => 104,
-        Refusal::RamdiskMeetsBootData => 105,
-        Refusal::KernelNotInRows => 106,
-        Refusal::LineNotInRows => 107,
-        Refusal::RamdiskNotInRows => 108,
+impl From<Refusal> for u32 {
+    ghost from_gives = { λ refusal n. n ≡ number_of refusal };
+
+    fn from(refusal: Refusal) -> u32 {
+        refusal as u32
     }
 }
 
-// Where a row of tests stands: open while none has failed, shut by the first that does.
-#[derive(Clone, Copy)]
-pub enum Gate {
-    Open,
-    Shut(Refusal),
-}
+// The error of `Refusal::try_from`: no refusal has this number.
+#[derive(Clone, Copy, Debug, PartialEq, Eq)]
+pub struct UnknownNumber(pub u32);
 
-// Did no test refuse?
-pub fn is_open(gate: Gate) -> bool
-    ensures { result ≡ is_open gate }
-{
-    match gate {
-        Gate::Open => true,
-        Gate::Shut(_) => false,
+// The refusal that has a number, if one has.
+impl TryFrom<u32> for Refusal {
+    type Error = UnknownNumber;
+
+    ghost try_from_gives = { HasNumber };
+
+    fn try_from(n: u32) -> Result<Refusal, UnknownNumber> {
+        match n {
+            1 => Ok(Refusal::InvalidElfMagicNumber),
+            2 => Ok(Refusal::BigEndianElfOnLittle),
+            3 => Ok(Refusal::InvalidProgramHeaderSize),
+            4 => Ok(Refusal::InvalidProgramHeaderOffset),
+            5 => Ok(Refusal::InvalidEntryAddress),
+            6 => Ok(Refusal::Overflow),
+            7 => Ok(Refusal::ReadElfHeader),
+            8 => Ok(Refusal::ReadProgramHeader),
+            9 => Ok(Refusal::InvalidProgramHeaderAddress),
+            10 => Ok(Refusal::ReadKernelImage),
+            11 => Ok(Refusal::ReadNoteHeader),
+            12 => Ok(Refusal::InvalidPvhNote),
+            13 => Ok(Refusal::MemoryOverflow),
+            14 => Ok(Refusal::InvalidProgramHeaderFileSize),
+            21 => Ok(Refusal::InvalidBzImage),
+            22 => Ok(Refusal::Underflow),
+            23 => Ok(Refusal::InvalidKernelStartAddress),
+            24 => Ok(Refusal::ReadBzImageCompressedKernel),
+            31 => Ok(Refusal::InvalidCommandLine),
+            32 => Ok(Refusal::CommandLineOverflow),
+            41 => Ok(Refusal::InvalidCapacity),
+            42 => Ok(Refusal::InvalidAscii),
+            43 => Ok(Refusal::HasSpace),
+            44 => Ok(Refusal::HasEquals),
+            45 => Ok(Refusal::MissingVal),
+            46 => Ok(Refusal::MmioSize),
+            47 => Ok(Refusal::TooLarge),
+            48 => Ok(Refusal::NoQuoteSpace),
+            49 => Ok(Refusal::InvalidQuote),
+            50 => Ok(Refusal::NoBootArgsInserted),
+            51 => Ok(Refusal::NullTerminator),
+            60 => Ok(Refusal::SliceTooLong),
+            61 => Ok(Refusal::BadList),
+            62 => Ok(Refusal::NoRoom),
+            63 => Ok(Refusal::NoBudget),
+            64 => Ok(Refusal::LentChanged),
+            70 => Ok(Refusal::BadJob),
+            71 => Ok(Refusal::UnclosedQuote),
+            72 => Ok(Refusal::TooFewPlaces),
+            73 => Ok(Refusal::BadPageSize),
+            74 => Ok(Refusal::TooManyRows),
+            75 => Ok(Refusal::BadRow),
+            76 => Ok(Refusal::BadPart),
+            77 => Ok(Refusal::BadMap),
+            78 => Ok(Refusal::BadStartMagic),
+            79 => Ok(Refusal::BadStartVersion),
+            80 => Ok(Refusal::BadStartReserved),
+            81 => Ok(Refusal::ShortImage),
+            82 => Ok(Refusal::BadImageMagic),
+            83 => Ok(Refusal::BigEndianImage),
+            84 => Ok(Refusal::NoImageSize),
+            85 => Ok(Refusal::UnalignedBase),
+            86 => Ok(Refusal::ImageStartWraps),
+            87 => Ok(Refusal::NoRoomForImage),
+            88 => Ok(Refusal::ImageEndWraps),
+            91 => Ok(Refusal::LineTooLong),
+            92 => Ok(Refusal::WrongEntry),
+            93 => Ok(Refusal::No64BitEntry),
+            94 => Ok(Refusal::NoPvhEntry),
+            95 => Ok(Refusal::LineNotInTree),
+            96 => Ok(Refusal::KernelOutside),
+            97 => Ok(Refusal::RamdiskOutside),
+            98 => Ok(Refusal::BootDataOutside),
+            99 => Ok(Refusal::RamdiskTooHigh),
+            100 => Ok(Refusal::KernelMeetsLine),
+            101 => Ok(Refusal::KernelMeetsRamdisk),
+            102 => Ok(Refusal::KernelMeetsBootData),
+            103 => Ok(Refusal::LineMeetsRamdisk),
+            104 => Ok(Refusal::LineMeetsBootData),
+            105 => Ok(Refusal::RamdiskMeetsBootData),
+            106 => Ok(Refusal::KernelNotInRows),
+            107 => Ok(Refusal::LineNotInRows),
+            108 => Ok(Refusal::RamdiskNotInRows),
+            _ => Err(UnknownNumber(n)),
+        }
     }
 }
 
-// One more test: it refuses where it fails and none before it refused.
-pub fn require(gate: Gate, ok: bool, refusal: Refusal) -> Gate
-    ensures { result ≡ asked gate ok refusal }
+// One test: its refusal, if it fails. A row of tests calls this with `?` for each, so that the first test that fails is
+// the one that refuses.
+pub fn require(ok: bool, refusal: Refusal) -> Result<(), Refusal>
+    ensures { result ≡ asked pass ok refusal }
 {
-    match gate {
-        Gate::Shut(first) => Gate::Shut(first),
-        Gate::Open => { if ok { Gate::Open } else { Gate::Shut(refusal) } }
-    }
+    if ok { Ok(()) } else { Err(refusal) }
 }

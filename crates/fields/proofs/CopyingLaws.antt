@@ -1,11 +1,14 @@
 -- Laws of a run of stores, `sets`, as a copy makes it.
-use Prim.Native.Nat.{ℕ, suc, ◌+◌, ◌-◌, ◌≤◌, ◌<◌, min}
+use Prim.Native.Nat.{ℕ, zero, suc, ◌+◌, ◌-◌, ◌≤◌, ◌<◌, min}
 use mathlib.Core.Path.{◌≡◌, refl, sym, ap, ◌∙◌}
 use mathlib.Core.List.{List, [], ◌∷◌, ◌++◌}
 use native.Mathlib.Omega.{arith}
 use native.Mathlib.Decide.{dec_le}
-use lib.ListN.{length, set, get_or, take, drop, replicate, length-set, length-take, length-drop, take-append-drop, drop_of_length-le}
-use lib.Seq.{sets, set_out, drop-cons, drop-drop, get_or-set_same, get_or-set_other}
+use Rattle.std.proofs.lemmas.List.{take_all, append-nil}
+use Rattle.std.proofs.Common.{append_assoc}
+use borrow.Rule.Slice.PartMut.{put_mid}
+use lib.ListN.{length, set, get_or, take, drop, length-set, length-take, length-drop, take-append-drop, drop_of_length-le}
+use lib.Seq.{sets, sets-eq, length-sets, set_out, drop-drop, get_or-set_other}
 
 -- stores past the end change nothing
 pub sets_out : (vs l : List ℕ) (i : ℕ) → length l ≤ i → sets l i vs ≡ l
@@ -19,10 +22,6 @@ sets_done vs l i h = split (dec_le (length vs) i)
     split : Dec (length vs ≤ i) → sets l i (drop i vs) ≡ l
     split (yes p) = rw (drop_of_length-le vs p)
     split (no n) = sets_out (drop i vs) l i (omega arith)
-
--- one more store
-pub sets_next : (vs l : List ℕ) (i : ℕ) → i < length vs → sets (set l i (get_or vs i 0)) (suc i) (drop (suc i) vs) ≡ sets l i (drop i vs)
-sets_next vs l i h = rw (drop-cons vs i 0 h)
 
 -- a place at or past the end may be any other such place
 pub sets_clipped : (vs l : List ℕ) (p q : ℕ) → q ≡ min p (length l) → sets l q vs ≡ sets l p vs
@@ -71,63 +70,36 @@ sets_whole [] (x ∷ l) e = absurd (omega arith)
 sets_whole (v ∷ vs) [] e = absurd (omega arith)
 sets_whole (v ∷ vs) (x ∷ l) e = sets_behind vs l v 0 ∙ ap (λ (t : List ℕ). v ∷ t) (sets_whole vs l (omega arith))
 
--- ---- a block, by way of an array
+-- stores from a place on are stores at the front of what is there
+pub sets_rest : (vs l : List ℕ) (n : ℕ) → n ≤ length l → take n l ++ sets (drop n l) 0 vs ≡ sets l n vs
+sets_rest vs l zero h = refl
+sets_rest vs [] (suc n) h = absurd (omega arith)
+sets_rest vs (x ∷ l) (suc n) h = ap (λ (t : List ℕ). x ∷ t) (sets_rest vs l n (omega arith)) ∙ sym (sets_behind vs l x n)
 
--- the first j bytes of the array are those of src from i on
-pub record Taken (block src : List ℕ) (i j : ℕ) : Type 0 where
-  pub taken : (x : ℕ) → x < j → get_or block x 0 ≡ get_or src (i + x) 0
+-- ---- a block of k bytes, the same part of both lists
 
-pub taken_none : (block src : List ℕ) (i : ℕ) → Taken block src i 0
-taken_none block src i = record { taken = λ x h. absurd (omega arith) }
-
-pub taken_next : {block src : List ℕ} {i j next : ℕ} → next ≡ suc j → j < length block → Taken block src i j → Taken (set block j (get_or src (i + j) 0)) src i next
-taken_next {block} {src} {i} {j} {next} en h before = record { taken = λ x lt. split x lt (dec_le j x) }
-  where
-    split : (x : ℕ) → x < next → Dec (j ≤ x) → get_or (set block j (get_or src (i + j) 0)) x 0 ≡ get_or src (i + x) 0
-    split x lt (yes last) = let same : x ≡ j = omega arith in rw same (get_or-set_same block j (get_or src (i + j) 0) 0 h)
-    split x lt (no earlier) = get_or-set_other block j x (get_or src (i + j) 0) 0 (λ e. absurd (omega arith)) ∙ before.taken x (omega arith)
-
-pub taken_all : {block src : List ℕ} {i j n : ℕ} → n ≤ j → Taken block src i j → Taken block src i n
-taken_all h all = record { taken = λ x lt. all.taken x (omega arith) }
-
--- one more of its bytes
-pub block_next : {block src : List ℕ} (dst : List ℕ) (i k n : ℕ) → k < n → i + n ≤ length src → Taken block src i n
-    → sets (set dst (i + k) (get_or block k 0)) (i + (k + 1)) (take (n - (k + 1)) (drop (i + (k + 1)) src)) ≡ sets dst (i + k) (take (n - k) (drop (i + k) src))
-block_next {block} {src} dst i k n lt room all =
-    let after : i + (k + 1) ≡ suc (i + k) = omega arith in
-    let left : n - k ≡ suc (n - (k + 1)) = omega arith in
-    rw (after, left, all.taken k lt, drop-cons src (i + k) 0 (omega arith))
-
-pub block_done : (dst src : List ℕ) (p n k : ℕ) → n ≤ k → sets dst p (take (n - k) (drop p src)) ≡ dst
-block_done dst src p n k h = let none : n - k ≡ 0 = omega arith in rw none
+block_put : (src l part : List ℕ) (i k : ℕ) → i + k ≤ length src → i + k ≤ length l → part ≡ take k (drop i src) → put_mid i k l part ≡ sets l i (take k (drop i src))
+block_put src l part i k hs hl e =
+    let block = take k (drop i src) in
+    let long : length block ≡ k = length-take k (drop i src) ∙ omega (arith, length-drop i src) in
+    rw (e, sets-eq block l i (rw long hl), long, drop-drop k i l, append_assoc (take i l) (take k (drop i src)) (drop (i + k) l))
 
 -- a block, then the rest
-pub blocks_next : (src dst : List ℕ) (i k : ℕ) {next : ℕ} → next ≡ i + k → next ≤ length src → sets (sets dst i (take k (drop i src))) next (drop next src) ≡ sets dst i (drop i src)
-blocks_next src dst i k {next} e h =
-    rw e
-    (ap (sets (sets dst i (take k (drop i src))) (i + k)) (sym (drop-drop k i src))
-    ∙ sym (sets_append (take k (drop i src)) (drop k (drop i src)) dst i (i + k) (rw (length-take k (drop i src), length-drop) (omega arith)))
-    ∙ ap (sets dst i) (take-append-drop k (drop i src)))
+pub blocks_next : (src l part : List ℕ) (i k next : ℕ) → next ≡ i + k → next ≤ length src → next ≤ length l → part ≡ take k (drop i src)
+    → sets (put_mid i k l part) next (drop next src) ≡ sets l i (drop i src)
+blocks_next src l part i k next e hs hl ep =
+    rw (block_put src l part i k (omega arith) (omega arith) ep, e)
+    (ap (sets (sets l i (take k (drop i src))) (i + k)) (sym (drop-drop k i src))
+    ∙ sym (sets_append (take k (drop i src)) (drop k (drop i src)) l i (i + k) (rw (length-take k (drop i src), length-drop) (omega arith)))
+    ∙ ap (sets l i) (take-append-drop k (drop i src)))
 
--- ---- stores from a place on, one after the other
+-- ---- a part, from a place on
 
--- one more: the byte i, at p
-pub stored_next : (vs l : List ℕ) (p i : ℕ) (q j : ℕ) → q ≡ suc p → j ≡ suc i → i < length vs → sets (set l p (get_or vs i 0)) q (drop j vs) ≡ sets l p (drop i vs)
-stored_next vs l p i q j eq ej h = rw (eq, ej, drop-cons vs i 0 h)
-
--- nothing is left to store where either list has ended
-pub stored_done : (vs l : List ℕ) (at p i : ℕ) → p ≡ at + i → min (at + length vs) (length l) ≤ p → sets l p (drop i vs) ≡ l
-stored_done vs l at p i e h = split (dec_le (length vs) i)
-  where
-    split : Dec (length vs ≤ i) → sets l p (drop i vs) ≡ l
-    split (yes q) = rw (drop_of_length-le vs q)
-    split (no n) = sets_out (drop i vs) l p (omega arith)
-
--- ---- zeros, stored one after the other
-
--- one more zero
-pub zeros_next : (l : List ℕ) (i : ℕ) {n m : ℕ} → m ≡ suc n → sets (set l i 0) (suc i) (replicate n 0) ≡ sets l i (replicate m 0)
-zeros_next l i e = rw e
-
-pub zeros_done : (l : List ℕ) (i : ℕ) {n : ℕ} → n ≡ 0 → sets l i (replicate n 0) ≡ l
-zeros_done l i e = rw e
+-- what is stored in the rest of a list from a place on, clipped to its end
+pub put_rest : (vs l part : List ℕ) (n at : ℕ) → n ≡ min at (length l) → part ≡ sets (take (length l - n) (drop n l)) 0 vs
+    → put_mid n (length l - n) l part ≡ sets l at vs
+put_rest vs l part n at e ep =
+    let low : n ≤ length l = omega arith in
+    let rest : take (length l - n) (drop n l) ≡ drop n l = take_all (length l - n) (drop n l) (omega (arith, length-drop n l)) in
+    let none : drop (length l - n) (drop n l) ≡ [] = drop_of_length-le (drop n l) (omega (arith, length-drop n l)) in
+    rw (ep, rest, none, append-nil (sets (drop n l) 0 vs)) (sets_rest vs l n low ∙ sets_clipped vs l at n e)

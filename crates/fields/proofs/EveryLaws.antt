@@ -1,6 +1,10 @@
 -- Laws of a test of every number below another.
-use Prim.Native.Nat.{ℕ, zero, suc, ◌≤◌, ◌<◌}
+use Prim.Native.Nat.{ℕ, zero, suc, ◌+◌, ◌≤◌, ◌<◌}
 use mathlib.Core.Path.{◌≡◌, refl, sym, ap, ◌∙◌}
+use mathlib.Core.List.{List, [], ◌∷◌}
+use lib.ListN.{length, get_or}
+use native.Mathlib.Nat.{add-zero}
+use Rattle.std.specs.List.{list_all, enumerate_from, range_with_len}
 use mathlib.Core.Bool.{Bool, true, false, ◌&&◌}
 use native.Mathlib.Omega.{arith}
 use native.Mathlib.Decide.{dec_le}
@@ -65,3 +69,49 @@ unfolding every
 every_fails test zero i h f = absurd (omega arith)
 every_fails test (suc n) i h f =
     by_last n i h (λ same. right_failed (every test n) (ap test (sym same) ∙ f)) (λ less. left_failed (test n) (every_fails test n i less f))
+
+-- ---- counted from the front, as a list is
+
+pub every_same : (t u : ℕ → Bool) (n : ℕ) → ((i : ℕ) → t i ≡ u i) → every t n ≡ every u n
+unfolding every
+every_same t u zero h = refl
+every_same t u (suc n) h = rw (every_same t u n h, h n)
+
+every_front : (t : ℕ → Bool) (n : ℕ) → every t (suc n) ≡ (t 0 && every (λ (i : ℕ). t (suc i)) n)
+unfolding every
+every_front t zero = one (t 0)
+  where
+    one : (b : Bool) → (true && b) ≡ (b && true)
+    one true = refl
+    one false = refl
+every_front t (suc n) = rw (every_front t n) (grouped (t 0) (every (λ (i : ℕ). t (suc i)) n) (t (suc n)))
+  where
+    grouped : (a b c : Bool) → ((a && b) && c) ≡ (a && (b && c))
+    grouped true b c = refl
+    grouped false b c = refl
+
+-- the elements of a list, counted from n
+pub all_every : (test : ℕ → ℕ → Bool) (vs : List ℕ) (n : ℕ) → list_all (λ (p : ℕ × ℕ). test p.0 p.1) (enumerate_from n vs) ≡ every (λ (i : ℕ). test (n + i) (get_or vs i 0)) (length vs)
+all_every test [] n = sym (every_none _ refl)
+all_every test (v ∷ vs) n =
+    ap (λ (b : Bool). test n v && b) (all_every test vs (n + 1) ∙ every_same _ _ (length vs) (λ i. ap (λ (k : ℕ). test k (get_or vs i 0)) (next n i)))
+    ∙ ap (λ (k : ℕ). test k v && every (λ (i : ℕ). test (n + suc i) (get_or vs i 0)) (length vs)) (sym (add-zero n))
+    ∙ sym (every_front (λ (i : ℕ). test (n + i) (get_or (v ∷ vs) i 0)) (length vs))
+  where
+    next : (n i : ℕ) → n + 1 + i ≡ n + suc i
+    next n i = omega arith
+
+-- the numbers from n on
+range_every_from : (test : ℕ → Bool) (k n : ℕ) → list_all test (range_with_len n k) ≡ every (λ (i : ℕ). test (n + i)) k
+range_every_from test zero n = sym (every_none _ refl)
+range_every_from test (suc k) n =
+    ap (λ (b : Bool). test n && b) (range_every_from test k (n + 1) ∙ every_same _ _ k (λ i. ap test (next n i)))
+    ∙ ap (λ (m : ℕ). test m && every (λ (i : ℕ). test (n + suc i)) k) (sym (add-zero n))
+    ∙ sym (every_front (λ (i : ℕ). test (n + i)) k)
+  where
+    next : (n i : ℕ) → n + 1 + i ≡ n + suc i
+    next n i = omega arith
+
+-- those below n
+pub range_every : (test : ℕ → Bool) (n : ℕ) → list_all test (range_with_len 0 n) ≡ every test n
+range_every test n = range_every_from test n 0 ∙ every_same _ _ n (λ i. ap test (let e : 0 + i ≡ i = omega arith in e))

@@ -1,17 +1,18 @@
 -- Laws of little-endian numbers, over the width.
 use Prim.Native.Nat.{ℕ, zero, suc, ◌+◌, ◌-◌, ◌≤◌, ◌<◌, ◌*◌, ◌/◌, ◌%◌, ◌^◌, min}
-use mathlib.Core.Path.{◌≡◌, refl, ap, sym, ◌∙◌, subst, subst⁻¹, subst₂}
+use mathlib.Core.Path.{◌≡◌, refl, ap, sym, ◌∙◌, subst⁻¹}
 use mathlib.Core.Bool.{true}
 use mathlib.Core.List.{List, [], ◌∷◌, ◌++◌}
 use native.Mathlib.Omega.{arith}
 use native.Mathlib.Decide.{dec_le}
-use native.Mathlib.Nat.{pow-suc, add-suc, mul-suc, mul_right_comm, mul-le-mul_left, one-le-pow, pow-le-pow_right, lt_of_lt_of_le, mod-one, mod-eq_of_lt, mod-lt, div-one, div-eq_of_lt, div-add-mod, div-div-eq-div-mul, not-le_of_lt}
-use borrow.Author.Tests.{lt-ltb, le-ltb, ltb-true, eq-eqb, ne_eqb}
+use native.Mathlib.Nat.{pow-suc, add-zero, mul-zero, mul-suc, mul-le-mul_left, add-suc, mul_right_comm, one-le-pow, pow-le-pow_right, lt_of_lt_of_le, mod-one, mod-eq_of_lt}
+use borrow.Author.Tests.{lt-ltb, ltb-true}
 use lib.Arith.{mod-mul}
-use lib.Dec.{eqb, ltb}
-use lib.ListN.{length, get_or, set, take, drop, get_or-append, get_or-eq_default}
-use lib.Pow.{pow-add}
-use lib.Seq.{sets, get_or-drop}
+use lib.ListN.{length, get_or, set, take, drop, replicate, get_or-append, get_or-eq_default, length-take, length-drop}
+use lib.Seq.{sets}
+use Rattle.std.specs.Int.{w64, from_le_bytes}
+use Rattle.std.proofs.lemmas.Nat.{pow-add}
+use Rattle.std.proofs.lemmas.List.{get_or-append_right, get_or-replicate, get_or-drop}
 use Rattle.fields.specs.Numbers.{le, ReadAs, le_bytes, fits, HasBytes, a_byte}
 use Rattle.fields.proofs.CopyingLaws.{sets_out, sets_none}
 use Rattle.fields.proofs.HasBytesLaws.{stored_at}
@@ -35,11 +36,6 @@ pub read_none : (n : ℕ) (s : List ℕ) (p : ℕ) → n ≡ 0 → ReadAs n s p 
 unfolding le
 read_none n s p e = subst⁻¹ (λ (k : ℕ). ReadAs k s p 0) e (record { value = refl; small = omega arith })
 
--- the same bytes, with the width and the place written another way
-pub read_same : {n m p q v : ℕ} {s : List ℕ} → n ≡ m → p ≡ q → ReadAs n s p v → ReadAs m s q v
-read_same {v = v} {s = s} en ep r = subst₂ (λ (a b : ℕ). ReadAs a s b v) en ep r
-
--- one more byte, in front
 le_next : (n : ℕ) (s : List ℕ) (p : ℕ) {v b : ℕ} → v ≡ le n s (suc p) → b ≡ get_or s p 0 → v * 256 + b ≡ le (suc n) s p
 unfolding le
 le_next n s p ev eb = rw (ev, eb) (omega arith)
@@ -109,6 +105,47 @@ le_within (suc n) a k s p h =
     get_d_take (suc k) (x ∷ l) zero lt = refl
     get_d_take (suc k) (x ∷ l) (suc i) lt = get_d_take k l i (omega arith)
 
+-- ---- a field of n bytes that is in the slice, read with zeros behind it as one of 8
+
+le_small : (n : ℕ) (s : List ℕ) (p : ℕ) → ((k : ℕ) → get_or s k 0 < 256) → le n s p < 256 ^ n
+unfolding le
+le_small zero s p bytes = omega arith
+le_small (suc n) s p bytes =
+    let byte = bytes p in
+    let rest = le_small n s (suc p) bytes in
+    rw (pow-suc 256 n) (omega arith)
+
+le_zeros : (n : ℕ) (s : List ℕ) (p : ℕ) → ((k : ℕ) → p ≤ k → get_or s k 0 ≡ 0) → le n s p ≡ 0
+unfolding le
+le_zeros zero s p none = refl
+le_zeros (suc n) s p none = rw (none p (omega arith), le_zeros n s (suc p) (λ k h. none k (omega arith)))
+
+abbrev zeros : List ℕ
+zeros = replicate 8 0
+
+zero_behind : (n : ℕ) (field : List ℕ) → length field ≡ n → (k : ℕ) → n ≤ k → get_or (field ++ drop n zeros) k 0 ≡ 0
+zero_behind n field e k h =
+    get_or-append_right field (drop n zeros) n k 0 e h ∙ get_or-drop n zeros (k - n) 0 ∙ split (dec_le 8 (n + (k - n)))
+  where
+    split : Dec (8 ≤ n + (k - n)) → get_or zeros (n + (k - n)) 0 ≡ 0
+    split (yes past) = get_or-eq_default zeros 0 past
+    split (no low) = get_or-replicate 8 (n + (k - n)) 0 0 (omega arith)
+
+from_bytes : (s : List ℕ) → from_le_bytes w64 s ≡ le 8 s 0
+unfolding le
+from_bytes s = omega arith
+
+pub read_field : (n m : ℕ) (s field : List ℕ) (p : ℕ) {r : ℕ} → n ≤ 8 → m ≡ n → p + n ≤ length s → ((k : ℕ) → get_or s k 0 < 256)
+    → field ≡ take m (drop p s) → r ≡ from_le_bytes w64 (field ++ drop n zeros) → ReadAs n s p r
+read_field n m s field p most em room bytes ef er =
+    let long : length field ≡ n = ap length ef ∙ length-take m (drop p s) ∙ omega (arith, length-drop p s) in
+    let whole = field ++ drop n zeros in
+    let parts = le_joined n (8 - n) 8 0 n whole (omega arith) (omega arith) in
+    let none = le_zeros (8 - n) whole n (zero_behind n field long) in
+    let front : le n whole 0 ≡ le n s p = le_append n field (drop n zeros) 0 (omega arith) ∙ rw (ef, em, le_within n p n s 0 (omega arith), add-zero p) in
+    let value = er ∙ from_bytes whole ∙ parts ∙ rw (none, front, mul-zero (256 ^ n), add-zero (le n s p)) in
+    record { value = value; small = rw value (le_small n s p bytes) }
+
 -- ---- the bytes of a number
 
 pub length_le_bytes : (n v : ℕ) → length (le_bytes n v) ≡ n
@@ -146,7 +183,7 @@ put_done s p v end h = split (dec_le end p)
     split (yes low) = let none : end - p ≡ 0 = omega arith in sets_none (le_bytes (end - p) v) s p (length_le_bytes (end - p) v ∙ none)
     split (no high) = sets_out (le_bytes (end - p) v) s p (omega arith)
 
--- ---- a number that fits n bytes: asked by dividing it n times by 256
+-- ---- a number that fits n bytes
 
 pub fits_small : (n v : ℕ) → fits n v ≡ true → v < 256 ^ n
 unfolding fits
@@ -156,23 +193,8 @@ pub small_fits : (n v : ℕ) → v < 256 ^ n → fits n v ≡ true
 unfolding fits
 small_fits n v h = lt-ltb v (256 ^ n) h
 
-pub divided_none : (v : ℕ) {n : ℕ} → n ≡ 0 → v ≡ v / 256 ^ n
-divided_none v e = rw (e, div-one v)
-
-pub divided_next : (v i : ℕ) {rest : ℕ} → rest ≡ v / 256 ^ i → rest / 256 ≡ v / 256 ^ suc i
-divided_next v i e = rw (e, div-div-eq-div-mul v (256 ^ i) 256, pow-suc 256 i)
-
-quotient_none : (v m : ℕ) → 0 < m → v / m ≡ 0 → v < m
-quotient_none v m pos e =
-    subst (λ (k : ℕ). k < m) (sym (ap (λ (q : ℕ). m * q + v % m) e ∙ mul_none m (v % m)) ∙ div-add-mod v m) (mod-lt v pos)
-  where
-    mul_none : (m r : ℕ) → m * 0 + r ≡ r
-    mul_none m r = omega arith
-
-pub divided_fits : (n v : ℕ) {rest m : ℕ} → rest ≡ v / 256 ^ n → m ≡ n → eqb rest 0 ≡ fits m v
-unfolding fits
-divided_fits n v {rest} {m} e en = rw en (split (dec_le (256 ^ n) v))
-  where
-    split : Dec (256 ^ n ≤ v) → eqb rest 0 ≡ ltb v (256 ^ n)
-    split (yes h) = ne_eqb rest 0 (λ z. not-le_of_lt (quotient_none v (256 ^ n) (one-le-pow n 256 (omega arith)) (sym e ∙ z)) h) ∙ sym (le-ltb v (256 ^ n) h)
-    split (no h) = eq-eqb rest 0 (e ∙ div-eq_of_lt (omega arith)) ∙ sym (lt-ltb v (256 ^ n) (omega arith))
+-- each number of 64 bits fits a width whose power of 256 passes 64 bits
+pub past_fits : (n v : ℕ) {m : ℕ} → m ≡ n → ¬ (256 ^ m < 2 ^ 64) → v < 2 ^ 64 → true ≡ fits n v
+past_fits n v {m} e past h =
+    let room : 2 ^ 64 ≤ 256 ^ m = omega (arith, past) in
+    rw (← e) (sym (small_fits m v (lt_of_lt_of_le h room)))

@@ -2,8 +2,6 @@
 use mathlib.Core.Path.{refl}
 use Rattle.answers.specs.Outcome.{OneOutcome}
 use Rattle.answers.proofs.Outcomes.{meet, first}
-use Rattle.fields.proofs.numbers.wide.Kinds as wide_kinds
-use Rattle.fields.proofs.numbers.wide.Reads as wide_reads
 use Rattle.fields.proofs.numbers.byte_at.Kinds as byte_at_kinds
 use Rattle.fields.proofs.numbers.byte_at.Reads as byte_at_reads
 use Rattle.fields.proofs.numbers.bytes_of.Kinds as bytes_of_kinds
@@ -32,8 +30,6 @@ use Rattle.fields.proofs.rows.put_rows.Kinds as put_rows_kinds
 use Rattle.fields.proofs.rows.put_rows.Reads as put_rows_reads
 use Rattle.fields.proofs.rows.read_rows.Kinds as read_rows_kinds
 use Rattle.fields.proofs.rows.read_rows.Reads as read_rows_reads
-use Rattle.fields.proofs.copying.lesser.Kinds as lesser_kinds
-use Rattle.fields.proofs.copying.lesser.Reads as lesser_reads
 use Rattle.fields.proofs.copying.copy.Kinds as copy_kinds
 use Rattle.fields.proofs.copying.copy.Reads as copy_reads
 use Rattle.fields.proofs.numbers.is_within.Kinds as is_within_kinds
@@ -48,9 +44,6 @@ use Rattle.fields.proofs.copying.put.Kinds as put_kinds
 use Rattle.fields.proofs.copying.put.Reads as put_reads
 use Rattle.fields.proofs.copying.clear.Kinds as clear_kinds
 use Rattle.fields.proofs.copying.clear.Reads as clear_reads
-
-pub wide_one : OneOutcome 0 wide_kinds.ps wide_kinds.r wide_reads.Post
-wide_one κs a z z' ws ws' p q = (meet p q, refl)
 
 pub byte_at_one : OneOutcome 1 byte_at_kinds.ps byte_at_kinds.r byte_at_reads.Post
 byte_at_one κs a z z' ws ws' p q = (meet p.value q.value, refl)
@@ -93,9 +86,6 @@ put_rows_one κs a z z' ws ws' p q = (refl, first (meet p q))
 
 pub read_rows_one : OneOutcome 3 read_rows_kinds.ps read_rows_kinds.r read_rows_reads.Post
 read_rows_one κs a z z' ws ws' p q = (refl, first (meet p q))
-
-pub lesser_one : OneOutcome 0 lesser_kinds.ps lesser_kinds.r lesser_reads.Post
-lesser_one κs a z z' ws ws' p q = (meet p q, refl)
 
 pub copy_one : OneOutcome 2 copy_kinds.ps copy_kinds.r copy_reads.Post
 copy_one κs a z z' ws ws' p q = (refl, first (meet p q))

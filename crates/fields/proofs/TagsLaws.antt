@@ -1,28 +1,26 @@
 -- Laws of tags at a place.
-use Prim.Native.Nat.{ℕ, suc, ◌+◌, ◌≤◌, ◌<◌}
+use Prim.Native.Nat.{ℕ, suc, ◌+◌, ◌≤◌}
 use mathlib.Core.Path.{◌≡◌, refl}
-use mathlib.Core.Bool.{true, false}
+use mathlib.Core.Bool.{Bool, ◌&&◌, true, false}
 use mathlib.Core.List.{List, [], ◌∷◌, ◌++◌}
 use native.Mathlib.Omega.{arith}
-use borrow.Author.Tests.{eq-eqb, ne_eqb}
-use lib.ListN.{length, get_or, drop, drop_of_length-le, get_or-append}
-use lib.Seq.{drop-cons}
+use lib.ListN.{length, get_or, get_or-append}
+use Rattle.std.specs.Prelude.{nat_eq}
+use Rattle.std.specs.List.{list_all, enumerate_from}
 use Rattle.answers.specs.Pick.{pick}
+use Rattle.fields.specs.Numbers.{le}
+use Rattle.fields.proofs.NumbersLaws.{le_one}
 use Rattle.fields.specs.Tags.{tag_at}
 
--- from the i-th byte of the tag on: where that byte is right the rest decides, where it is wrong it is no tag
-pub tag_next : (tag s : List ℕ) (p i : ℕ) → i < length tag → get_or s (p + i) 0 ≡ get_or tag i 0
-    → tag_at (drop (suc i) tag) s (suc (p + i)) ≡ tag_at (drop i tag) s (p + i)
+-- each byte of the tag is compared with that at its place, from the n-th on
+pub tag_all : (tag s : List ℕ) (p n q : ℕ) → q ≡ p + n → list_all (λ (b : ℕ × ℕ). nat_eq (le 1 s (p + b.0)) b.1) (enumerate_from n tag) ≡ tag_at tag s q
 unfolding tag_at pick
-tag_next tag s p i h e = rw (drop-cons tag i 0 h, eq-eqb _ _ e)
-
-pub tag_wrong : (tag s : List ℕ) (p i : ℕ) → i < length tag → (get_or s (p + i) 0 ≡ get_or tag i 0 → ⊥) → tag_at (drop i tag) s (p + i) ≡ false
-unfolding tag_at pick
-tag_wrong tag s p i h e = rw (drop-cons tag i 0 h, ne_eqb _ _ e)
-
-pub tag_end : (tag s : List ℕ) (p i : ℕ) → length tag ≤ i → tag_at (drop i tag) s p ≡ true
-unfolding tag_at
-tag_end tag s p i h = rw (drop_of_length-le tag h)
+tag_all [] s p n q e = refl
+tag_all (b ∷ bs) s p n q e = rw (e, le_one s (p + n), tag_all bs s p (n + 1) (suc (p + n)) (omega arith)) (both (nat_eq (get_or s (p + n) 0) b) (tag_at bs s (suc (p + n))))
+  where
+    both : (x y : Bool) → (x && y) ≡ pick x y false
+    both true y = refl
+    both false y = refl
 
 -- a tag's place that stands in s says the same in s and more
 pub tag_append : (tag s t : List ℕ) (p : ℕ) → p + length tag ≤ length s → tag_at tag (s ++ t) p ≡ tag_at tag s p

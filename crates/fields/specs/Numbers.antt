@@ -20,7 +20,7 @@ le_bytes (suc n) v = v % 256 ∷ le_bytes n (v / 256)
 unfoldable pub fits : ℕ → ℕ → Bool
 fits n v = ltb v (256 ^ n)
 
--- these bytes stand in s from p on; a byte past the end is 0
+-- these bytes are in s from p on; a byte past the end is 0
 pub data HasBytes (s : List ℕ) : ℕ → List ℕ → Type 0 where
   no_byte : {p : ℕ} → HasBytes s p []
   a_byte : {p b : ℕ} {bs : List ℕ} → get_or s p 0 ≡ b → HasBytes s (suc p) bs → HasBytes s p (b ∷ bs)

@@ -12,7 +12,7 @@ unfoldable pub rows_bytes : (ℕ → ℕ) → List ℕ → ℕ → List ℕ
 rows_bytes width [] i = []
 rows_bytes width (v ∷ vs) i = le_bytes (width i) v ++ rows_bytes width vs (suc i)
 
--- the n numbers that stand in s from p on, the first of which is the i-th
+-- the n numbers in s from p on, the first of which is the i-th
 unfoldable pub rows_numbers : (ℕ → ℕ) → ℕ → List ℕ → ℕ → ℕ → List ℕ
 rows_numbers width zero s p i = []
 rows_numbers width (suc n) s p i = le (width i) s p ∷ rows_numbers width n s (p + width i) (suc i)

@@ -1,4 +1,5 @@
-// What every loader reads and writes: numbers, rows of numbers and tags at a place, ranges, rounding, the copy. Each function answers on every input.
+// What every loader reads and writes: numbers, rows of numbers and tags at a place, ranges, rounding, the copy. Each
+// function is total.
 #![tactic(auto)]
 
 pub mod copying;

@@ -1,4 +1,4 @@
-// Sums of a place and a size, reckoned as whole numbers.
+// Sums of a place and a size, as whole numbers: they never wrap.
 ghost use Rattle.std.specs.Prelude.{◌≡◌, ◌+◌, min};
 ghost use Rattle.fields.specs.Ranges.{lies_within, fits64, apart};
 
@@ -16,17 +16,18 @@ pub fn within(len: u64, at: u64, n: u64) -> bool
 pub fn sum_fits(a: u64, b: u64) -> bool
     ensures { result ≡ fits64 a b }
 {
-    within(0xFFFF_FFFF_FFFF_FFFF, a, b)
+    a.checked_add(b).is_some()
 }
 
-// A sum, where it does not pass the most that is allowed, else the most.
+// A sum, at most `most`.
 pub fn sum_up_to(most: u64, a: u64, b: u64) -> u64
     ensures { result ≡ min (a + b) most }
 {
-    if within(most, a, b) { a + b } else { most }
+    a.saturating_add(b).min(most)
 }
 
-// Have the n addresses from a on and the m from b on none in common? No sum is formed: where they have one, the later start is among both.
+// Have the n addresses from a on and the m from b on none in common? No sum is formed: if they have one in common, the
+// later start is among both.
 pub fn are_apart(a: u64, n: u64, b: u64, m: u64) -> bool
     ensures { result ≡ apart a n b m }
 {

@@ -12,11 +12,9 @@
 ghost use Rattle.std.specs.Prelude.{◌≡◌};
 ghost use Rattle.fields.specs.Rounding.{rounded_up};
 
-// The least multiple of 4 that is not below n, by the remainder.
+// The least multiple of 4 that is not below n.
 pub fn align_up(n: u32) -> u64
     ensures { result ≡ rounded_up n }
 {
-    let size = n as u64;
-    let over = size % 4;
-    if over == 0 { size } else { size + (4 - over) }
+    u64::from(n).next_multiple_of(4)
 }

@@ -1,7 +1,8 @@
-// Rows of little-endian numbers at a place of a slice. A row is a list of the widths of its fields; the numbers of all rows stand in one
-// list, their fields in turn.
+// Rows of little-endian numbers at a place of a slice. A row is a list of the widths of its fields; the numbers of all
+// rows are in one list, their fields in turn, as the C functions take them.
 ghost use Rattle.std.specs.Prelude.{◌≡◌, length};
 ghost use Rattle.std.proofs.lemmas.List.Edits.{sets};
+ghost use Rattle.fields.specs.Numbers.{fits};
 ghost use Rattle.fields.specs.Rows.{field_width, rows_bytes, rows_numbers, are_rows};
 
 use crate::{numbers, ranges};
@@ -10,31 +11,29 @@ use crate::{numbers, ranges};
 pub fn field_width(widths: &[u64], i: usize) -> u64
     ensures { result ≡ field_width widths.now i }
 {
-    if widths.len() == 0 {
+    if widths.is_empty() {
         return 0;
     }
     let field = i % widths.len();
     numbers::bytes_of(widths[field])
 }
 
+// Does the i-th number fit its field?
+fn fits_field(widths: &[u64], i: usize, v: u64) -> bool
+    ensures { result ≡ fits (field_width widths.now i) v }
+{
+    numbers::is_within(v, field_width(widths, i))
+}
+
 // Are these numbers whole rows, each number fitting its field?
 pub fn are_rows(widths: &[u64], numbers: &[u64]) -> bool
     ensures { result ≡ are_rows widths.now numbers.now }
 {
-    if widths.len() == 0 {
-        return numbers.len() == 0;
-    }
-    if numbers.len() % widths.len() != 0 {
-        return false;
-    }
-    let mut i = 0;
-    while i < numbers.len() {
-        if !numbers::is_within(numbers[i], field_width(widths, i)) {
-            return false;
-        }
-        i += 1;
-    }
-    true
+    numbers.len().is_multiple_of(widths.len())
+        && numbers
+            .iter()
+            .enumerate()
+            .all(|(i, v)| fits_field(widths, i, *v))
 }
 
 // Writes the numbers at a place, as far as the slice goes.
@@ -43,12 +42,10 @@ pub fn put_rows(s: &mut [u8], at: u64, widths: &[u64], numbers: &[u64])
 {
     let end = s.len() as u64;
     let mut p = at;
-    let mut i = 0;
-    while i < numbers.len() {
+    for (i, v) in numbers.iter().enumerate() {
         let width = field_width(widths, i);
-        numbers::put_le(s, p, width, numbers[i]);
+        numbers::put_le(s, p, width, *v);
         p = ranges::sum_up_to(end, p, width);
-        i += 1;
     }
 }
 
@@ -58,11 +55,9 @@ pub fn read_rows(numbers: &mut [u64], s: &[u8], at: u64, widths: &[u64])
 {
     let end = s.len() as u64;
     let mut p = at;
-    let mut i = 0;
-    while i < numbers.len() {
+    for (i, v) in numbers.iter_mut().enumerate() {
         let width = field_width(widths, i);
-        numbers[i] = numbers::read_le(s, p, width);
+        *v = numbers::read_le(s, p, width);
         p = ranges::sum_up_to(end, p, width);
-        i += 1;
     }
 }

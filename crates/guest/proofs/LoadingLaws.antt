@@ -1,14 +1,13 @@
 -- Laws of every load. A loader gives its tests, its stream and what may lift; what follows is said here once.
+use Rattle.std.specs.Prelude.{Ok, Err}
 use Prim.Native.Nat.{ℕ, ◌≤◌}
 use mathlib.Core.Path.{◌≡◌, sym, ◌∙◌, refl, ap, subst⁻¹}
 use mathlib.Core.Bool.{false}
 use mathlib.Core.List.{List, [], ◌++◌}
 use lib.ListN.{length, get_or}
-use Rattle.answers.specs.Tests.{Test, asked_all, AllHold, FirstFails}
+use Rattle.answers.specs.Tests.{Test, asked_all, AllHold, FirstFails, Check, pass}
 use Rattle.answers.specs.Keeping.{Keeps, same, lifted, ShutBy, shut_by}
 use Rattle.answers.specs.declared.Refusal.{Refusal}
-use Rattle.answers.specs.declared.Gate.{Gate}
-use Rattle.answers.specs.declared.Gate.TheVariants.{Open, Shut}
 use Rattle.answers.proofs.TestsLaws.{open_all, all_open, shut_first, first_shut}
 use Rattle.answers.proofs.KeepingLaws.{Widens, row_keeps, kept}
 use Rattle.guest.specs.Maps.{ranges_of, in_ranges}
@@ -58,11 +57,11 @@ module _ {A : Type 0} (plan : Plan A) (before after : List ℕ) {r : A} (loads :
 -- ---- a plan behind a row of tests
 
 module _ {A : Type 0} (refused : Refusal → A) (ts : List Test) (plan : Plan A) where
-  pub tests_open : asked_all Open ts ≡ Open → behind_tests refused ts plan ≡ plan
+  pub tests_open : asked_all pass ts ≡ pass → behind_tests refused ts plan ≡ plan
   unfolding behind_tests
   tests_open e = ap (λ gate. behind_gate refused gate plan) e
 
-  pub tests_shut : {r : Refusal} → asked_all Open ts ≡ Shut r → behind_tests refused ts plan ≡ refused_plan refused r
+  pub tests_shut : {r : Refusal} → asked_all pass ts ≡ Err r → behind_tests refused ts plan ≡ refused_plan refused r
   unfolding behind_tests
   tests_shut e = ap (λ gate. behind_gate refused gate plan) e
 
@@ -74,27 +73,27 @@ module _ {A : Type 0} (refused : Refusal → A) (ts : List Test) (plan : Plan A)
   first_planned {r} f = tests_shut (first_shut ts r f)
 
   -- so what holds of both holds of it
-  by_gate : (P : Plan A → Type 0) → (AllHold ts → P plan) → ((r : Refusal) → FirstFails r ts → P (refused_plan refused r)) → (gate : Gate)
-      → asked_all Open ts ≡ gate → P (behind_gate refused gate plan)
-  by_gate P holds fails Open e = holds (open_all ts e)
-  by_gate P holds fails (Shut r) e = fails r (shut_first ts r e)
+  by_gate : (P : Plan A → Type 0) → (AllHold ts → P plan) → ((r : Refusal) → FirstFails r ts → P (refused_plan refused r)) → (gate : Check)
+      → asked_all pass ts ≡ gate → P (behind_gate refused gate plan)
+  by_gate P holds fails (Ok _) e = holds (open_all ts e)
+  by_gate P holds fails (Err r) e = fails r (shut_first ts r e)
 
   pub behind_with : (P : Plan A → Type 0) → (AllHold ts → P plan) → ((r : Refusal) → FirstFails r ts → P (refused_plan refused r))
       → P (behind_tests refused ts plan)
   unfolding behind_tests
-  behind_with P holds fails = by_gate P holds fails (asked_all Open ts) refl
+  behind_with P holds fails = by_gate P holds fails (asked_all pass ts) refl
 
   -- it goes into memory where the plan does whenever all tests hold
   pub behind_inside : (m : Memory) → (AllHold ts → Inside m plan.stream) → Inside m (behind_tests refused ts plan).stream
   behind_inside m inside = behind_with (λ p. Inside m p.stream) inside (λ r f. none)
 
-  -- what a function says that asks the tests and, where they are open, writes the plan's stream
-  pub load_refused : {gate : Gate} {r : Refusal} (before : List ℕ) → gate ≡ asked_all Open ts → gate ≡ Shut r
+  -- what a function says that asks the tests and, if they pass, writes the plan's stream
+  pub load_refused : {gate : Check} {r : Refusal} (before : List ℕ) → gate ≡ asked_all pass ts → gate ≡ Err r
       → Loads (behind_tests refused ts plan) before (refused r) before
   unfolding pour
   load_refused before asked is = rw (tests_shut (sym asked ∙ is)) (record { answer = refl; memory = refl })
 
-  pub load_accepted : {gate : Gate} {before after : List ℕ} → gate ≡ asked_all Open ts → gate ≡ Open → after ≡ pour plan.stream before
+  pub load_accepted : {gate : Check} {before after : List ℕ} → gate ≡ asked_all pass ts → gate ≡ pass → after ≡ pour plan.stream before
       → Loads (behind_tests refused ts plan) before plan.answer after
   load_accepted asked is written = rw (tests_open (sym asked ∙ is)) (record { answer = refl; memory = written })
 
@@ -105,14 +104,14 @@ module _ {A : Type 0} (refused : Refusal → A) (Lifts : Refusal → Type 0) whe
   abbrev pub LiftPlan : Plan A → Type 0
   LiftPlan plan = RefusedFor refused Lifts plan.answer
 
-  gate_keeps : {x x' : Gate} {plan plan' : Plan A} → Keeps (ShutBy Lifts) x x' → (x ≡ Open → Keeps LiftPlan plan plan')
+  gate_keeps : {x x' : Check} {plan plan' : Plan A} → Keeps (ShutBy Lifts) x x' → (x ≡ pass → Keeps LiftPlan plan plan')
       → Keeps LiftPlan (behind_gate refused x plan) (behind_gate refused x' plan')
   gate_keeps (lifted (shut_by {refusal = r} l)) rest = lifted (record { refusal = r; lifts = l; is = refl })
   gate_keeps {x} {plan = plan} {plan' = plan'} same rest = at x rest
     where
-      at : (x : Gate) → (x ≡ Open → Keeps LiftPlan plan plan') → Keeps LiftPlan (behind_gate refused x plan) (behind_gate refused x plan')
-      at Open rest = rest refl
-      at (Shut r) rest = same
+      at : (x : Check) → (x ≡ pass → Keeps LiftPlan plan plan') → Keeps LiftPlan (behind_gate refused x plan) (behind_gate refused x plan')
+      at (Ok _) rest = rest refl
+      at (Err r) rest = same
 
   pub behind_keeps : {ts ts' : List Test} {plan plan' : Plan A} → Widens Lifts ts ts' → (AllHold ts → Keeps LiftPlan plan plan')
       → Keeps LiftPlan (behind_tests refused ts plan) (behind_tests refused ts' plan')
@@ -125,8 +124,8 @@ module _ {A : Type 0} (refused : Refusal → A) (Lifts : Refusal → Type 0) whe
 pub answer_same : {A : Type 0} (refused : Refusal → A) {ts ts' : List Test} (plan plan' : Plan A) → ts ≡ ts' → plan.answer ≡ plan'.answer
     → (behind_tests refused ts plan).answer ≡ (behind_tests refused ts' plan').answer
 unfolding behind_tests
-answer_same refused {ts} {ts'} plan plan' et ea = ap (λ (xs : List Test). (behind_gate refused (asked_all Open xs) plan).answer) et ∙ by (asked_all Open ts')
+answer_same refused {ts} {ts'} plan plan' et ea = ap (λ (xs : List Test). (behind_gate refused (asked_all pass xs) plan).answer) et ∙ by (asked_all pass ts')
   where
-    by : (g : Gate) → (behind_gate refused g plan).answer ≡ (behind_gate refused g plan').answer
-    by Open = ea
-    by (Shut r) = refl
+    by : (g : Check) → (behind_gate refused g plan).answer ≡ (behind_gate refused g plan').answer
+    by (Ok _) = ea
+    by (Err r) = refl

@@ -1,9 +1,9 @@
 -- Laws of maps as lists of numbers.
 use mathlib.Core.Path.{◌≡◌, sym, refl, ap}
 use mathlib.Core.List.{List, [], ◌∷◌}
-use Prim.Native.Nat.{ℕ, zero, suc, ◌/◌, ◌%◌, ◌<◌, min}
+use Prim.Native.Nat.{ℕ, zero, suc, ◌<◌}
 use native.Mathlib.Omega.{arith}
-use borrow.Author.Tests.{eq-eqb, ne_eqb}
+use borrow.Author.Tests.{ne_eqb}
 use lib.ListN.{length, get_or, set, replicate}
 use lib.Seq.{sets}
 use Rattle.answers.specs.Pick.{pick}
@@ -28,15 +28,6 @@ second_next l numbers i at ek en eo ev = rw (ek, en, eo, ev)
 pub second_end : (l numbers : List ℕ) (i at : ℕ) {k : ℕ} → k ≡ 0 → sets l i (every_second k numbers at) ≡ l
 unfolding every_second
 second_end l numbers i at ek = rw ek
-
--- an odd length counts too many ranges, an even one half of itself
-pub count_odd : (n : ℕ) → (n % 2 ≡ 0 → ⊥) → range_count n ≡ suc most_ranges
-unfolding range_count pick
-count_odd n odd = rw (ne_eqb (n % 2) 0 odd)
-
-pub count_even : (n : ℕ) → n % 2 ≡ 0 → range_count n ≡ min (n / 2) (suc most_ranges)
-unfolding range_count pick
-count_even n even = rw (eq-eqb (n % 2) 0 even)
 
 -- the list 0, len is the whole of a slice of this length, and the empty list that of an empty one
 pub whole_numbers : (len : ℕ) → 0 < len → map_of (0 ∷ len ∷ []) ≡ whole_map len

@@ -1,33 +1,26 @@
 -- Laws of memory maps: range by range as a loop asks them, what the tests mean, and maps that grow.
-use mathlib.Core.Path.{◌≡◌, sym, ◌∙◌, refl, subst}
+use mathlib.Core.Path.{◌≡◌, sym, ◌∙◌, refl, ap, subst}
 use mathlib.Core.Bool.{Bool, true, false, ◌&&◌, ◌||◌}
 use mathlib.Core.List.{List, [], ◌∷◌, ◌++◌}
 use mathlib.Core.Logic.{⊎_elim}
-use Prim.Native.Nat.{ℕ, suc, ◌+◌, ◌-◌, ◌≤◌, ◌<◌, min}
+use Prim.Native.Nat.{ℕ, zero, suc, ◌+◌, ◌-◌, ◌≤◌, ◌<◌, min}
 use native.Mathlib.Omega.{arith}
 use native.Mathlib.Decide.{dec_le}
 use borrow.Author.Tests.{leb-true, le-leb, lt-leb, ltb-true, lt-ltb, le-ltb, eq-eqb, ne_eqb, eqb-true, eqb-false}
 use lib.Dec.{leb, ltb, eqb}
 use lib.ListN.{get_or}
+use native.Mathlib.Numerals.{add-one}
+use Rattle.std.specs.List.{list_any, list_all, range_with_len}
 use Rattle.answers.specs.Pick.{pick}
 use Rattle.answers.proofs.BoolLaws.{both_held, one_held, right_holds}
 use Rattle.fields.specs.Ranges.{lies_within}
 use Rattle.fields.proofs.RangesLaws.{within_sum, sum_within}
-use Rattle.guest.specs.Maps.{Range, ranges_from, in_range, in_ranges, good_range, good_ranges, floor_of, good_map, whole_map, most_ranges, ranges_of, same_ranges, same_map}
+use Rattle.guest.specs.Maps.{Range, ranges_from, in_range, in_ranges, good_range, good_ranges, good_map, whole_map, most_ranges, ranges_of, same_ranges, same_map}
 use Rattle.guest.specs.declared.Map.{Map}
 
 -- ---- range by range, as a loop goes: of k ranges from i on, the first and the rest
 
 module _ (starts sizes : List ℕ) (i : ℕ) where
-  pub in_next : {k : ℕ} {t : Bool} (j next address n : ℕ) → k ≡ suc j → next ≡ suc i → t ≡ in_range (get_or starts i 0) (get_or sizes i 0) address n
-      → in_ranges (ranges_from k starts sizes i) address n ≡ t || in_ranges (ranges_from j starts sizes next) address n
-  unfolding ranges_from in_ranges
-  in_next j next address n ek en et = rw (ek, en, et)
-
-  pub in_end : {k : ℕ} (address n : ℕ) → k ≡ 0 → in_ranges (ranges_from k starts sizes i) address n ≡ false
-  unfolding ranges_from in_ranges
-  in_end address n ek = rw ek
-
   pub good_next : {k : ℕ} {t : Bool} (j next len floor : ℕ) → k ≡ suc j → next ≡ suc i → t ≡ good_range len floor (get_or starts i 0) (get_or sizes i 0)
       → good_ranges len floor (ranges_from k starts sizes i) ≡ t && good_ranges len (suc (get_or starts i 0 + get_or sizes i 0)) (ranges_from j starts sizes next)
   unfolding ranges_from good_ranges
@@ -37,23 +30,9 @@ module _ (starts sizes : List ℕ) (i : ℕ) where
   unfolding ranges_from good_ranges
   good_end len floor ek = rw ek
 
--- the floor of the first range, and of a later one
-pub floor_first : (end : ℕ) → floor_of 0 end ≡ 0
-unfolding floor_of pick
-floor_first end = refl
-
-pub floor_next : (i end : ℕ) → floor_of (suc i) end ≡ suc end
-unfolding floor_of pick
-floor_next i end = rw (ne_eqb (suc i) 0 (λ e. omega arith))
-
 -- as code asks where a range starts
-pub past_first : (i end start : ℕ) → i ≡ 0 → true ≡ leb (floor_of i end) start
-unfolding floor_of pick
-past_first i end start e = rw (eq-eqb i 0 e, le-leb 0 start (omega arith))
-
-pub past_later : (i end start : ℕ) → (i ≡ 0 → ⊥) → ltb end start ≡ leb (floor_of i end) start
-unfolding floor_of pick
-past_later i end start n = rw (ne_eqb i 0 n) (split (dec_le (suc end) start))
+pub past_end : (end start : ℕ) → ltb end start ≡ leb (suc end) start
+past_end end start = split (dec_le (suc end) start)
   where
     split : Dec (suc end ≤ start) → ltb end start ≡ leb (suc end) start
     split (yes h) = lt-ltb end start h ∙ sym (le-leb (suc end) start h)
@@ -169,36 +148,34 @@ whole_good len = by (eqb len 0) refl
 pub whole_in : (len address n : ℕ) → 0 < len → address + n ≤ len → in_ranges (ranges_of (whole_map len)) address n ≡ true
 whole_in len address n some fits = rw (whole_ranges len some) (in_here (0, len) [] address n (omega arith) (omega arith))
 
--- ---- the same ranges, as a loop asks
+-- ---- the ranges by their index
 
--- k ranges from range i on, of two lists of starts and two of sizes
-abbrev pub same_from : ℕ → List ℕ → List ℕ → List ℕ → List ℕ → ℕ → Bool
-same_from k starts sizes starts' sizes' i = same_ranges (ranges_from k starts sizes i) (ranges_from k starts' sizes' i)
+-- do n bytes lie in one of k ranges from range i on?
+pub in_any : (k i : ℕ) (starts sizes : List ℕ) (address n : ℕ)
+    → list_any (λ (j : ℕ). in_range (get_or starts j 0) (get_or sizes j 0) address n) (range_with_len i k) ≡ in_ranges (ranges_from k starts sizes i) address n
+unfolding ranges_from in_ranges
+in_any zero i starts sizes address n = refl
+in_any (suc k) i starts sizes address n = rw (add-one i) (ap (λ (t : Bool). in_range (get_or starts i 0) (get_or sizes i 0) address n || t) (in_any k (suc i) starts sizes address n))
 
-module _ (starts sizes starts' sizes' : List ℕ) (i : ℕ) where
-  pub same_next : {k : ℕ} (j next : ℕ) → k ≡ suc j → next ≡ suc i → get_or starts i 0 ≡ get_or starts' i 0 → get_or sizes i 0 ≡ get_or sizes' i 0
-      → same_from k starts sizes starts' sizes' i ≡ same_from j starts sizes starts' sizes' next
-  unfolding same_ranges ranges_from
-  same_next j next ek en es ez = rw (ek, en, eq-eqb (get_or starts i 0) (get_or starts' i 0) es, eq-eqb (get_or sizes i 0) (get_or sizes' i 0) ez)
-
-  pub other_start : {k : ℕ} (j : ℕ) → k ≡ suc j → (get_or starts i 0 ≡ get_or starts' i 0 → ⊥) → same_from k starts sizes starts' sizes' i ≡ false
-  unfolding same_ranges ranges_from
-  other_start j ek ne = rw (ek, ne_eqb (get_or starts i 0) (get_or starts' i 0) ne)
-
-  pub other_size : {k : ℕ} (j : ℕ) → k ≡ suc j → get_or starts i 0 ≡ get_or starts' i 0 → (get_or sizes i 0 ≡ get_or sizes' i 0 → ⊥)
-      → same_from k starts sizes starts' sizes' i ≡ false
-  unfolding same_ranges ranges_from
-  other_size j ek es ne = rw (ek, eq-eqb (get_or starts i 0) (get_or starts' i 0) es, ne_eqb (get_or sizes i 0) (get_or sizes' i 0) ne)
-
-  pub same_end : {k : ℕ} → k ≡ 0 → same_from k starts sizes starts' sizes' i ≡ true
-  unfolding same_ranges ranges_from
-  same_end ek = rw ek
+-- are k ranges from range i on the same?
+pub same_all : (k i : ℕ) (starts sizes starts' sizes' : List ℕ)
+    → list_all (λ (j : ℕ). eqb (get_or starts j 0) (get_or starts' j 0) && eqb (get_or sizes j 0) (get_or sizes' j 0)) (range_with_len i k)
+    ≡ same_ranges (ranges_from k starts sizes i) (ranges_from k starts' sizes' i)
+unfolding ranges_from same_ranges
+same_all zero i starts sizes starts' sizes' = refl
+same_all (suc k) i starts sizes starts' sizes' =
+    rw (add-one i, same_all k (suc i) starts sizes starts' sizes')
+    (grouped (eqb (get_or starts i 0) (get_or starts' i 0)) (eqb (get_or sizes i 0) (get_or sizes' i 0)) (same_ranges (ranges_from k starts sizes (suc i)) (ranges_from k starts' sizes' (suc i))))
+  where
+    grouped : (a b c : Bool) → (a && b && c) ≡ (a && (b && c))
+    grouped true b c = refl
+    grouped false b c = refl
 
 -- the counts are compared first
 pub same_counted : (a b : Map) {k : ℕ} → a.count ≡ b.count → k ≡ min a.count most_ranges
-    → same_map a b ≡ same_from k a.starts a.sizes b.starts b.sizes 0
+    → same_ranges (ranges_from k a.starts a.sizes 0) (ranges_from k b.starts b.sizes 0) ≡ same_map a b
 unfolding same_map
-same_counted a b ec ek = rw (eq-eqb a.count b.count ec, ← ec, ek)
+same_counted a b ec ek = sym (rw (eq-eqb a.count b.count ec, ← ec, ek))
 
 pub other_count : (a b : Map) → (a.count ≡ b.count → ⊥) → same_map a b ≡ false
 unfolding same_map

@@ -6,11 +6,10 @@ use Prim.Native.Nat.{ℕ, ◌+◌, ◌≤◌, ◌<◌}
 use native.Mathlib.Omega.{arith}
 use native.Mathlib.Decide.{dec_le}
 use borrow.Author.Tests.{le-leb, eq-eqb, ne_eqb}
-use lib.Dec.{leb}
+use lib.Dec.{leb, eqb}
 use lib.ListN.{length, length-append}
 use Rattle.answers.specs.Pick.{pick}
-use Rattle.answers.specs.Tests.{Test, asked, asked_all}
-use Rattle.answers.specs.declared.Gate.{Gate}
+use Rattle.answers.specs.Tests.{Test, asked, asked_all, Check}
 use Rattle.answers.specs.declared.Refusal.{Refusal}
 use Rattle.answers.specs.declared.Refusal.TheVariants.{SliceTooLong, BadMap}
 use Rattle.answers.proofs.BoolLaws.{both_held}
@@ -69,6 +68,15 @@ pub room_for_some : (m : Memory) (address n : ℕ) → 0 < n → room_for m addr
 unfolding room_for pick
 room_for_some m address n some = rw (ne_eqb n 0 (λ e. omega arith))
 
+-- and in memory that grows it keeps its room
+pub room_for_grows : (m m' : Memory) (address n : ℕ) → Grows m m' → room_for m address n ≡ true → room_for m' address n ≡ true
+unfolding room_for pick
+room_for_grows m m' address n grows e = by_none (eqb n 0) e
+  where
+    by_none : (b : Bool) → pick b true (room m address n) ≡ true → pick b true (room m' address n) ≡ true
+    by_none true w = refl
+    by_none false w = grows.rooms address n w
+
 -- a memory is the same as itself
 pub memory_self : (m : Memory) → same_memory m m ≡ true
 unfolding same_memory
@@ -118,7 +126,7 @@ whole_room size address n some = split (dec_le (address + n) size)
     split (no out) = rw (sum_beyond size address n (omega arith))
 
 -- and its map is good: what is lent is tested as it is with no map
-pub whole_lent : (gate : Gate) (size : ℕ) (rest : List Test)
+pub whole_lent : (gate : Check) (size : ℕ) (rest : List Test)
     → asked_all gate (memory_tests (whole_of size) ++ rest) ≡ asked_all gate ((allowed size, SliceTooLong) ∷ rest)
 whole_lent gate size rest =
     rw (whole_good size) (ap (λ g. asked_all g rest) (holds_passed (asked gate (allowed size) SliceTooLong) BadMap))

@@ -1,19 +1,17 @@
 -- An address that may be given.
-use Rattle.std.specs.Prelude.{Bool, true, false, ℕ}
+use Rattle.std.specs.Prelude.{Bool, true, false, ℕ, Some, None, Option}
 use Rattle.guest.specs.declared.GuestAddress.{GuestAddress}
-use Rattle.guest.specs.declared.Given.{Given}
-use Rattle.guest.specs.declared.Given.TheVariants.{Nothing, At}
 
 -- what is given, counted: nothing counts as 0
-unfoldable pub amount_of : Given → ℕ
-amount_of Nothing = 0
-amount_of (At a) = a.0
+unfoldable pub amount_of : Option GuestAddress → ℕ
+amount_of None = 0
+amount_of (Some a) = a.0
 
-unfoldable pub is_given : Given → Bool
-is_given Nothing = false
-is_given (At a) = true
+unfoldable pub is_given : Option GuestAddress → Bool
+is_given None = false
+is_given (Some a) = true
 
 -- what is given, else another address
-unfoldable pub given_or : Given → GuestAddress → GuestAddress
-given_or Nothing other = other
-given_or (At a) other = a
+unfoldable pub given_or : Option GuestAddress → GuestAddress → GuestAddress
+given_or None other = other
+given_or (Some a) other = a

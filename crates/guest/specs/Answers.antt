@@ -1,14 +1,14 @@
 -- What a load answers, of any format, as the catalogue's number and values.
-use Rattle.std.specs.Prelude.{ℕ, Bool, true, false, List, [], ◌∷◌}
+use Rattle.std.specs.Prelude.{ℕ, List, [], ◌∷◌, Result, Ok, Err}
 use Rattle.answers.specs.Catalogue.{number_of}
-use Rattle.guest.specs.declared.Answer.{Answer}
-use Rattle.guest.specs.declared.Answer.TheVariants.{Loaded, Refused}
+use Rattle.answers.specs.declared.Refusal.{Refusal}
+use Rattle.guest.specs.declared.KernelLoaderResult.{KernelLoaderResult}
 use Rattle.guest.specs.declared.PvhBootCapability.{PvhBootCapability}
 use Rattle.guest.specs.declared.PvhBootCapability.TheVariants.{PvhEntryPresent, PvhEntryNotPresent, PvhEntryIgnored}
 
-unfoldable pub is_loaded : Answer → Bool
-is_loaded (Loaded result) = true
-is_loaded (Refused r) = false
+-- what a load answers: where the kernel is, or the refusal
+abbrev pub Answer : Type 0
+Answer = Result KernelLoaderResult Refusal
 
 -- PVH as a number: 0 if it is ignored, 1 if there is no entry, 2 if there is one
 unfoldable pub pvh_code : PvhBootCapability → ℕ
@@ -35,12 +35,12 @@ pvh_size (PvhEntryPresent note) = note.size
 
 -- the number of an answer, 0 if the load is accepted
 unfoldable pub answer_number : Answer → ℕ
-answer_number (Loaded result) = 0
-answer_number (Refused r) = number_of r
+answer_number (Ok result) = 0
+answer_number (Err r) = number_of r
 
 -- its values: load address, end, PVH, and the note that gave it; a refusal has none
 unfoldable pub answer_values : Answer → List ℕ
-answer_values (Loaded result) =
+answer_values (Ok result) =
     let said = result.pvh_boot_cap in
     result.kernel_load.0 ∷ result.kernel_end.0 ∷ pvh_code said ∷ pvh_address said ∷ pvh_place said ∷ pvh_size said ∷ []
-answer_values (Refused r) = []
+answer_values (Err r) = []

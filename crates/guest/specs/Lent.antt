@@ -1,4 +1,4 @@
--- What is lent, tested before anything else. These rows stand before each loader's own.
+-- The tests of the image and of guest memory. These rows come before each loader's own.
 use Rattle.std.specs.Prelude.{List, [], ◌∷◌, ℕ}
 use Rattle.answers.specs.Tests.{Test}
 use Rattle.answers.specs.declared.Refusal.TheVariants as refusal

@@ -1,8 +1,9 @@
 -- Memory maps: up to 16 ranges of a slice, which are its memory. What lies between them is a hole.
-use Rattle.std.specs.Prelude.{Bool, true, false, ◌&&◌, ◌||◌, List, [], ◌∷◌, ℕ, zero, suc, ◌+◌, ◌-◌, ◌/◌, ◌%◌, min, leb, ltb, eqb, length, get_or, replicate}
+use Rattle.std.specs.Prelude.{Bool, true, false, ◌&&◌, ◌||◌, List, [], ◌∷◌, ℕ, zero, suc, ◌+◌, ◌-◌, ◌/◌, ◌%◌, min, leb, ltb, eqb, length, get_or, replicate, Option, Some, None}
 use Rattle.answers.specs.Pick.{pick}
 use Rattle.fields.specs.Ranges.{lies_within}
 use Rattle.guest.specs.declared.Map.{Map}
+use Rattle.guest.specs.declared.Extent.{Extent}
 
 -- a range: its start and its size
 abbrev pub Range : Type 0
@@ -19,6 +20,10 @@ ranges_from (suc k) starts sizes i = (get_or starts i 0, get_or sizes i 0) ∷ r
 -- the ranges of a map; a count above 16 counts as 16
 abbrev pub ranges_of : Map → List Range
 ranges_of map = ranges_from (min map.count most_ranges) map.starts map.sizes 0
+
+-- the range of a map at an index; past the sixteenth it is empty, at 0
+abbrev pub range_at : Map → ℕ → Extent
+range_at map i = record { at = record { 0 = get_or map.starts i 0 }; size = get_or map.sizes i 0 }
 
 -- do n bytes at an address lie in a range?
 unfoldable pub in_range : ℕ → ℕ → ℕ → ℕ → Bool
@@ -42,9 +47,10 @@ good_ranges len floor (r ∷ rs) = good_range len floor r.0 r.1 && good_ranges l
 unfoldable pub good_map : ℕ → Map → Bool
 good_map len map = leb map.count most_ranges && good_ranges len 0 (ranges_of map)
 
--- the floor of range i, where the range before it ends
-unfoldable pub floor_of : ℕ → ℕ → ℕ
-floor_of i end = pick (eqb i 0) 0 (suc end)
+-- the floor of a range, past the end of the range before it, if there is one
+unfoldable pub floor_of : Option ℕ → ℕ
+floor_of None = 0
+floor_of (Some end) = suc end
 
 -- the map that is the whole of a slice of this length; of an empty slice it has no range
 abbrev pub whole_map : ℕ → Map

@@ -31,7 +31,7 @@ pub data Larger : Memory → Memory → Type 0 where
       → ranges_of m'.map ≡ xs ++ ((start, size') ∷ []) → Larger m m'
   in_turn : {m m' m'' : Memory} → Larger m m' → Larger m' m'' → Larger m m''
 
--- the memory that a lent slice is with a map
+-- the memory that a slice is with a map
 abbrev pub memory_of : List ℕ → Map → Memory
 memory_of guest map = record { size = length guest; map = map }
 

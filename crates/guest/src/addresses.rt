@@ -1,34 +1,13 @@
-// What an address that may be given stands for.
+// An address that may be given.
 ghost use Rattle.std.specs.Prelude.{◌≡◌};
-ghost use Rattle.guest.specs.Addresses.{amount_of, is_given, given_or};
+ghost use Rattle.guest.specs.Addresses.{amount_of};
 
-use crate::{Given, GuestAddress};
+use crate::GuestAddress;
 
-// What is given, counted: nothing counts as 0.
-pub fn amount(given: Given) -> u64
+// The address that is given, or 0 if none is.
+#[tactic(auto, unfolding(crate::specs::Addresses::amount_of))]
+pub fn amount(given: Option<GuestAddress>) -> u64
     ensures { result ≡ amount_of given }
 {
-    match given {
-        Given::Nothing => 0,
-        Given::At(a) => a.0,
-    }
-}
-
-pub fn is_given(given: Given) -> bool
-    ensures { result ≡ is_given given }
-{
-    match given {
-        Given::Nothing => false,
-        Given::At(_) => true,
-    }
-}
-
-// What is given, else another address.
-pub fn given_or(given: Given, other: GuestAddress) -> GuestAddress
-    ensures { result ≡ given_or given other }
-{
-    match given {
-        Given::Nothing => other,
-        Given::At(a) => a,
-    }
+    given.map_or(0, |a| a.0)
 }

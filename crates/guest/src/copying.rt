@@ -9,11 +9,11 @@ use fields::copying;
 fn clipped(n: u64, len: usize) -> usize
     ensures { result ≡ min n len }
 {
-    copying::lesser(n as usize, len)
+    (n as usize).min(len)
 }
 
-// Copies n image bytes from a place to an address, as far as the image and guest memory go. The part of guest memory that begins at
-// the address is lent on, and the copy sees only that part.
+// Copies n image bytes from a place to an address, as far as the image and guest memory go. The copy gets only the part
+// of guest memory that begins at the address.
 pub fn copy_image(guest: &mut [u8], address: GuestAddress, image: &[u8], place: ImagePlace, n: u64)
     ensures { guest.new ≡ pour (stream_at address.0 (bytes_at image.now place.0 n)) guest.old }
 {

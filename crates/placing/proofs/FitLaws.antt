@@ -1,4 +1,5 @@
 -- Laws of `fit`: the first address of all ranges of guest memory, range by range.
+use Rattle.std.specs.Prelude.{None, Option}
 use Prim.Native.Nat.{ℕ, zero, suc, ◌+◌, ◌%◌, ◌≤◌, ◌<◌, min, max}
 use mathlib.Core.Path.{◌≡◌, sym, ◌∙◌, refl, ap, subst}
 use mathlib.Core.Bool.{Bool, true, false, true≢false}
@@ -11,70 +12,60 @@ use lib.ListN.{get_or}
 use Rattle.answers.specs.Pick.{pick}
 use Rattle.answers.proofs.BoolLaws.{one_held, left_holds, right_holds}
 use Rattle.guest.specs.Maps.{Range, ranges_from, in_range, in_ranges, most_ranges}
-use Rattle.guest.specs.declared.Given.{Given}
-use Rattle.guest.specs.declared.Given.TheVariants.{Nothing, At}
 use Rattle.guest.specs.declared.GuestAddress.{GuestAddress}
 use Rattle.guest.specs.declared.Memory.{Memory}
 use Rattle.guest.proofs.MapsLaws.{range_means, means_range}
 use Rattle.guest.proofs.RoomLaws.{room_means, means_room, room_for_none, room_for_some}
 use Rattle.placing.specs.Placing.{ranges_in, Fits, First, first, nowhere}
+use Rattle.placing.specs.declared.Wanted.{Wanted}
+use Rattle.placing.specs.declared.Wanted.TheVariants.{Lowest, Highest}
 use Rattle.placing.specs.Search.{FitsIn, Order, is_before, first_of}
 
 -- ---- the first address of two, and of one property or another
 
-is_before_lem : (lowest : Bool) (a b : ℕ) → is_before lowest a b ≡ true → Order lowest a b
-unfolding is_before Order pick
-is_before_lem true a b e = ltb-true a b e
-is_before_lem false a b e = ltb-true b a e
+is_before_lem : (wanted : Wanted) (a b : ℕ) → is_before wanted a b ≡ true → Order wanted a b
+unfolding is_before Order
+is_before_lem Lowest a b e = ltb-true a b e
+is_before_lem Highest a b e = ltb-true b a e
 
-before_trans : (lowest : Bool) (x a b : ℕ) → Order lowest x a → Order lowest a b → Order lowest x b
+before_trans : (wanted : Wanted) (x a b : ℕ) → Order wanted x a → Order wanted a b → Order wanted x b
 unfolding Order
-before_trans true x a b h k = omega arith
-before_trans false x a b h k = omega arith
+before_trans Lowest x a b h k = omega arith
+before_trans Highest x a b h k = omega arith
 
 -- what comes before an address comes before one that does not
-not_before : (lowest : Bool) (x a b : ℕ) → Order lowest x a → is_before lowest b a ≡ false → Order lowest x b
-unfolding is_before Order pick
-not_before true x a b h e = let le = ltb-false b a e in omega arith
-not_before false x a b h e = let le = ltb-false a b e in omega arith
+not_before : (wanted : Wanted) (x a b : ℕ) → Order wanted x a → is_before wanted b a ≡ false → Order wanted x b
+unfolding is_before Order
+not_before Lowest x a b h e = let le = ltb-false b a e in omega arith
+not_before Highest x a b h e = let le = ltb-false a b e in omega arith
 
--- as code finds it
-module _ (lowest : Bool) {a b : GuestAddress} {r r' : Given} (e' : r' ≡ At b) (e : r ≡ At a) where
-  pub first_found : is_before lowest b.0 a.0 ≡ true → At b ≡ first_of lowest r r'
-  unfolding first_of pick
-  first_found t = rw (e', e, t)
-
-  pub first_kept : is_before lowest b.0 a.0 ≡ false → At a ≡ first_of lowest r r'
-  unfolding first_of pick
-  first_kept t = rw (e', e, t)
-
-pub first_of_lem : {P Q R : ℕ → Type 0} {r r' s : Given} (lowest : Bool) → ((x : ℕ) → P x → R x) → ((x : ℕ) → Q x → R x)
-    → ((x : ℕ) → R x → P x ⊎ Q x) → First (Order lowest) P r → First (Order lowest) Q r' → s ≡ first_of lowest r r'
-    → First (Order lowest) R s
+pub first_of_lem : {P Q R : ℕ → Type 0} {r r' s : Option GuestAddress} (wanted : Wanted) → ((x : ℕ) → P x → R x) → ((x : ℕ) → Q x → R x)
+    → ((x : ℕ) → R x → P x ⊎ Q x) → First (Order wanted) P r → First (Order wanted) Q r' → s ≡ first_of wanted r r'
+    → First (Order wanted) R s
 unfolding first_of pick
-first_of_lem {P} {Q} {R} {s = s} lowest p-in q-in either (first {a = a} p none) (first {a = b} q none') e =
-    by (is_before lowest b.0 a.0) refl
+first_of_lem {P} {Q} {R} {s = s} wanted p-in q-in either (first {a = a} p none) (first {a = b} q none') e =
+    by (is_before wanted b.0 a.0) refl
   where
-    by : (t : Bool) → is_before lowest b.0 a.0 ≡ t → First (Order lowest) R s
+    by : (t : Bool) → is_before wanted b.0 a.0 ≡ t → First (Order wanted) R s
     by true t =
         rw (e, t)
         (first (q-in b.0 q)
         (λ x h r.
-        let further = before_trans lowest x b.0 a.0 h (is_before_lem lowest b.0 a.0 t) in
+        let further = before_trans wanted x b.0 a.0 h (is_before_lem wanted b.0 a.0 t) in
         ⊎_elim (none x further) (none' x h) (either x r)))
     by false t =
         rw (e, t)
         (first (p-in a.0 p)
-        (λ x h r. ⊎_elim (none x h) (none' x (not_before lowest x a.0 b.0 h t)) (either x r)))
-first_of_lem lowest p-in q-in either (first {a = a} p none) (nowhere none') e =
+        (λ x h r. ⊎_elim (none x h) (none' x (not_before wanted x a.0 b.0 h t)) (either x r)))
+first_of_lem wanted p-in q-in either (first {a = a} p none) (nowhere none') e =
     rw e (first (p-in a.0 p) (λ x h r. ⊎_elim (none x h) (none' x) (either x r)))
-first_of_lem lowest p-in q-in either (nowhere none) (first {a = b} q none') e =
+first_of_lem wanted p-in q-in either (nowhere none) (first {a = b} q none') e =
     rw e (first (q-in b.0 q) (λ x h r. ⊎_elim (none x) (none' x h) (either x r)))
-first_of_lem lowest p-in q-in either (nowhere none) (nowhere none') e =
+first_of_lem wanted p-in q-in either (nowhere none) (nowhere none') e =
     rw e (nowhere (λ x r. ⊎_elim (none x) (none' x) (either x r)))
 
 -- of two properties that are the same
-pub first_same : {before : ℕ → ℕ → Type 0} {P Q : ℕ → Type 0} {r : Given} → ((x : ℕ) → P x → Q x) → ((x : ℕ) → Q x → P x)
+pub first_same : {before : ℕ → ℕ → Type 0} {P Q : ℕ → Type 0} {r : Option GuestAddress} → ((x : ℕ) → P x → Q x) → ((x : ℕ) → Q x → P x)
     → First before P r → First before Q r
 first_same to from (first p none) = first (to _ p) (λ x h q. none x h (from x q))
 first_same to from (nowhere none) = nowhere (λ x q. none x (from x q))
@@ -88,15 +79,15 @@ pub record FitsAmong (qs : List Range) (low top step n : ℕ) (starts sizes : Li
   pub fits : FitsIn qs (max low (get_or starts index 0)) (min (get_or starts index 0 + get_or sizes index 0) top) step n a
 
 module _ {qs : List Range} {low top step n : ℕ} {starts sizes : List ℕ} where
-  pub among_none : {before : ℕ → ℕ → Type 0} → First before (FitsAmong qs low top step n starts sizes 0) Nothing
+  pub among_none : {before : ℕ → ℕ → Type 0} → First before (FitsAmong qs low top step n starts sizes 0) None
   among_none = nowhere (λ x f. let among = f.among in absurd (omega arith))
 
-  pub among_next : (lowest : Bool) {i from end : ℕ} {best found r : Given}
-      → First (Order lowest) (FitsAmong qs low top step n starts sizes i) best → from ≡ max low (get_or starts i 0)
-      → end ≡ min (get_or starts i 0 + get_or sizes i 0) top → First (Order lowest) (FitsIn qs from end step n) found
-      → r ≡ first_of lowest best found → First (Order lowest) (FitsAmong qs low top step n starts sizes (i + 1)) r
-  among_next lowest {i} {from} {end} going ef ee found e =
-      first_of_lem lowest (λ x f. record { index = f.index; among = let among = f.among in omega arith; fits = f.fits })
+  pub among_next : (wanted : Wanted) {i from end : ℕ} {best found r : Option GuestAddress}
+      → First (Order wanted) (FitsAmong qs low top step n starts sizes i) best → from ≡ max low (get_or starts i 0)
+      → end ≡ min (get_or starts i 0 + get_or sizes i 0) top → First (Order wanted) (FitsIn qs from end step n) found
+      → r ≡ first_of wanted best found → First (Order wanted) (FitsAmong qs low top step n starts sizes (i + 1)) r
+  among_next wanted {i} {from} {end} going ef ee found e =
+      first_of_lem wanted (λ x f. record { index = f.index; among = let among = f.among in omega arith; fits = f.fits })
       (λ x f. record { index = i; among = omega arith; fits = rw (sym ef, sym ee) f })
       (λ x f. by x f (dec_le i f.index)) going found e
     where
@@ -219,11 +210,11 @@ module _ {m : Memory} {placed : List ℕ} {low high align n step : ℕ} (es : st
           is_apart = f.fits.is_apart;
         }
 
-    pub fit_some : {before : ℕ → ℕ → Type 0} {r : Given}
+    pub fit_some : {before : ℕ → ℕ → Type 0} {r : Option GuestAddress}
         → First before (FitsOne m placed low top step n k) r
         → First before (Fits m placed low high align n) r
     fit_some l = first_same among_fits fits_among l
 
-  pub fit_empty : {before : ℕ → ℕ → Type 0} {r : Given} → n ≡ 0
+  pub fit_empty : {before : ℕ → ℕ → Type 0} {r : Option GuestAddress} → n ≡ 0
       → First before (FitsIn (ranges_in placed) low high step n) r → First before (Fits m placed low high align n) r
   fit_empty e l = first_same (in_fits e) fits_in l

@@ -1,26 +1,38 @@
 -- Laws of the search within bounds.
-use Prim.Native.Nat.{ℕ, suc, ◌+◌, ◌-◌, ◌*◌, ◌/◌, ◌%◌, ◌≤◌, ◌<◌, min, max}
+use Rattle.std.specs.Prelude.{Some, None, Option}
+use Prim.Native.Nat.{ℕ, zero, suc, ◌+◌, ◌-◌, ◌*◌, ◌/◌, ◌%◌, ◌^◌, ◌≤◌, ◌<◌, min, max}
 use mathlib.Core.Path.{◌≡◌, sym, ◌∙◌, refl, ap, subst}
 use mathlib.Core.Bool.{Bool, true, false}
-use mathlib.Core.List.{List, [], ◌∷◌}
+use mathlib.Core.List.{List, [], ◌∷◌, ◌++◌}
 use native.Mathlib.Omega.{arith}
 use native.Mathlib.Decide.{dec_le}
-use native.Mathlib.Nat.{mod-lt, div-add-mod', lt_of_mul-lt-mul_right, mul-le-mul_right, suc-mul}
+use native.Mathlib.Nat.{add-zero, sub-zero, mod_self, mod-eq_of_lt, mod-lt, div-add-mod', lt_of_mul-lt-mul_right, mul-le-mul_right, suc-mul}
 use lib.Arith.{digits_mod}
-use lib.ListN.{get_or}
+use lib.Dec.{eqb}
+use borrow.Author.Tests.{eqb-true, eqb-false}
+use Rattle.std.specs.Int.{next_multiple_of}
+use lib.ListN.{get_or, length}
 use Rattle.answers.specs.Pick.{pick}
 use Rattle.answers.proofs.BoolLaws.{both_held}
-use Rattle.fields.specs.Ranges.{apart, lies_within}
+use Rattle.fields.specs.Ranges.{apart}
 use Rattle.fields.proofs.ApartLaws.{apart_none, not_apart_among}
-use Rattle.fields.proofs.RangesLaws.{within_sum, beyond_sum}
 use Rattle.guest.specs.Maps.{Range}
-use Rattle.guest.specs.declared.Given.TheVariants.{Nothing, At}
-use Rattle.placing.specs.Placing.{pairs_from, apart_from, First, first, nowhere, Below, Above}
-use Rattle.placing.specs.Search.{met_of, NextMultiple, LastMultiple, FitsIn}
-use Rattle.placing.specs.declared.search.Met.{Met}
-use Rattle.placing.specs.declared.search.Met.TheVariants.{Apart, Meets}
+use Rattle.placing.specs.Placing.{pairs_from, ranges_in, apart_from, First, first, nowhere, Below, Above}
+use Rattle.placing.specs.Search.{met_of, FitsIn}
 
--- ---- the next multiple
+-- ---- the next multiple, and the last
+
+-- the least multiple of a step from a number on
+pub record NextMultiple (step v r : ℕ) : Type 0 where
+  pub above : v ≤ r
+  pub multiple : r % step ≡ 0
+  pub least : (x : ℕ) → v ≤ x → x % step ≡ 0 → r ≤ x
+
+-- the greatest multiple of a step up to a number
+pub record LastMultiple (step v r : ℕ) : Type 0 where
+  pub below : r ≤ v
+  pub multiple : r % step ≡ 0
+  pub greatest : (x : ℕ) → x ≤ v → x % step ≡ 0 → x ≤ r
 
 module _ (v step : ℕ) (some : 0 < step) where
   abbrev up : ℕ
@@ -43,27 +55,36 @@ module _ (v step : ℕ) (some : 0 < step) where
       let next = up_multiple in
       omega arith
 
-  pub gap_none : v % step ≡ 0 → NextMultiple step v 0
-  gap_none e =
-      let same : v + 0 ≡ v = omega arith in
-      record { multiple = ap (λ (k : ℕ). k % step) same ∙ e; least = λ x le even. omega arith }
-
-  pub gap_some : (v % step ≡ 0 → ⊥) → NextMultiple step v (step - v % step)
-  gap_some odd =
-      record {
-        multiple = ap (λ (k : ℕ). k % step) up_multiple ∙ digits_mod (suc (v / step)) some;
-        least = λ x le even. up_least x le even odd;
-      }
+  -- as std reckons it
+  pub next_is : {a : ℕ} → a ≡ next_multiple_of v step → NextMultiple step v a
+  next_is {a} is = rw is (by (eqb (v % step) 0) refl)
+    where
+      by : (t : Bool) → eqb (v % step) 0 ≡ t → NextMultiple step v (next_multiple_of v step)
+      by true e =
+          let even : v % step ≡ 0 = eqb-true (v % step) 0 e in
+          let same : next_multiple_of v step ≡ v = rw (even, sub-zero step, mod_self step) (add-zero v) in
+          rw same (record { above = omega arith; multiple = even; least = λ x le _. le })
+      by false e =
+          let odd : v % step ≡ 0 → ⊥ = eqb-false (v % step) 0 e in
+          let small = mod-lt v some in
+          let same : next_multiple_of v step ≡ up = ap (λ (k : ℕ). v + k) (mod-eq_of_lt (omega arith)) in
+          rw same
+          (record {
+            above = omega arith;
+            multiple = ap (λ (k : ℕ). k % step) up_multiple ∙ digits_mod (suc (v / step)) some;
+            least = λ x le even. up_least x le even odd;
+          })
 
 -- ---- the last multiple
 
-pub down_last : (v step : ℕ) → 0 < step → LastMultiple step v (v - v % step)
-down_last v step some =
-    record {
+pub down_last : (v step : ℕ) → 0 < step → {w : ℕ} → v ≡ w → LastMultiple step w (v - v % step)
+down_last v step some {w} e =
+    subst (λ (k : ℕ). LastMultiple step k (v - v % step)) e
+    (record {
       below = omega arith;
       multiple = ap (λ (k : ℕ). k % step) whole ∙ digits_mod (v / step) some;
       greatest = λ x le even. by x le even (dec_le x (v - v % step));
-    }
+    })
   where
     whole : v - v % step ≡ v / step * step + 0
     whole = let parts = div-add-mod' v step in omega arith
@@ -82,48 +103,60 @@ down_last v step some =
 
 -- ---- the first range that is met, range by range
 
-module _ (numbers : List ℕ) (a n : ℕ) where
-  pub met_next : {k : ℕ} (j i size next : ℕ) {t : Bool} {r : Met} → k ≡ suc j → size ≡ suc i → next ≡ suc (suc i)
-      → t ≡ apart (get_or numbers i 0) (get_or numbers size 0) a n → t ≡ true
-      → r ≡ met_of (pairs_from k numbers i) a n → r ≡ met_of (pairs_from j numbers next) a n
-  unfolding met_of pairs_from pick
-  met_next j i size next ek es en et e er =
-      er ∙ rw (ek, en, ap (λ x. apart (get_or numbers i 0) (get_or numbers x 0) a n) (sym es) ∙ sym et ∙ e)
+-- the first pair of a list, and the rest
+pairs_behind : (k : ℕ) (x y : ℕ) (numbers : List ℕ) (i : ℕ) → pairs_from k (x ∷ y ∷ numbers) (suc (suc i)) ≡ pairs_from k numbers i
+unfolding pairs_from
+pairs_behind zero x y numbers i = refl
+pairs_behind (suc k) x y numbers i = ap (λ (qs : List Range). (get_or numbers i 0, get_or numbers (suc i) 0) ∷ qs) (pairs_behind k x y numbers (suc (suc i)))
 
-  pub met_here : {k : ℕ} (j i size : ℕ) {t : Bool} {r : Met} → k ≡ suc j → size ≡ suc i
-      → t ≡ apart (get_or numbers i 0) (get_or numbers size 0) a n → t ≡ false
-      → r ≡ met_of (pairs_from k numbers i) a n → Meets (get_or numbers i 0) (get_or numbers size 0) ≡ r
-  unfolding met_of pairs_from pick
-  met_here j i size ek es et e er =
-      ap (λ x. Meets (get_or numbers i 0) (get_or numbers x 0)) es
-      ∙ sym (er ∙ rw (ek, ap (λ x. apart (get_or numbers i 0) (get_or numbers x 0) a n) (sym es) ∙ sym et ∙ e))
-
-  pub met_end : {k : ℕ} (i : ℕ) {r : Met} → k ≡ 0 → r ≡ met_of (pairs_from k numbers i) a n → Apart ≡ r
+module _ (rest : List ℕ) (a n : ℕ) where
+  chunk_met : (chunk rest' : List ℕ) → rest ≡ chunk ++ rest' → length chunk ≡ 2
+      → met_of (ranges_in rest) a n
+      ≡ pick (apart (get_or chunk 0 0) (get_or chunk 1 0) a n) (met_of (ranges_in rest') a n) (Some (get_or chunk 0 0, get_or chunk 1 0))
   unfolding met_of pairs_from
-  met_end i ek er = sym (er ∙ rw ek)
+  chunk_met [] rest' e two = absurd (omega arith)
+  chunk_met (x ∷ []) rest' e two = absurd (omega arith)
+  chunk_met (x ∷ y ∷ []) rest' e two =
+      let many : suc (suc (length rest')) / 2 ≡ suc (length rest' / 2) = omega arith in
+      rw (e, many, pairs_behind (length rest' / 2) x y rest' 0)
+  chunk_met (x ∷ y ∷ z ∷ zs) rest' e two = absurd (omega arith)
+
+  pub chunk_meets : (chunk rest' : List ℕ) → rest ≡ chunk ++ rest' → length chunk ≡ 2 → apart (get_or chunk 0 0) (get_or chunk 1 0) a n ≡ false
+      → met_of (ranges_in rest) a n ≡ Some (get_or chunk 0 0, get_or chunk 1 0)
+  unfolding pick
+  chunk_meets chunk rest' e two t = chunk_met chunk rest' e two ∙ rw t
+
+  pub chunk_apart : (chunk rest' : List ℕ) → rest ≡ chunk ++ rest' → length chunk ≡ 2 → apart (get_or chunk 0 0) (get_or chunk 1 0) a n ≡ true
+      → met_of (ranges_in rest) a n ≡ met_of (ranges_in rest') a n
+  unfolding pick
+  chunk_apart chunk rest' e two t = chunk_met chunk rest' e two ∙ rw t
+
+  pub chunks_end : length rest < 2 → met_of (ranges_in rest) a n ≡ None
+  unfolding met_of pairs_from
+  chunks_end h = let none : length rest / 2 ≡ 0 = omega arith in rw none
 
 -- what it means: n bytes at a are apart from all, or not from one, from which all are apart that are apart from all
-pub data MetMeans (qs : List Range) (a n : ℕ) : Met → Type 0 where
-  meets_none : apart_from qs a n ≡ true → MetMeans qs a n Apart
+pub data MetMeans (qs : List Range) (a n : ℕ) : Option Range → Type 0 where
+  meets_none : apart_from qs a n ≡ true → MetMeans qs a n None
   meets_one : {start size : ℕ} → apart start size a n ≡ false
-      → ((x : ℕ) → apart_from qs x n ≡ true → apart start size x n ≡ true) → MetMeans qs a n (Meets start size)
+      → ((x : ℕ) → apart_from qs x n ≡ true → apart start size x n ≡ true) → MetMeans qs a n (Some (start, size))
 
 met_means : (qs : List Range) (a n : ℕ) → MetMeans qs a n (met_of qs a n)
 unfolding met_of apart_from pick
 met_means [] a n = meets_none refl
 met_means (q ∷ qs) a n = by (apart q.0 q.1 a n) refl (met_of qs a n) refl (met_means qs a n)
   where
-    by : (t : Bool) → apart q.0 q.1 a n ≡ t → (r : Met) → met_of qs a n ≡ r → MetMeans qs a n r
+    by : (t : Bool) → apart q.0 q.1 a n ≡ t → (r : Option Range) → met_of qs a n ≡ r → MetMeans qs a n r
         → MetMeans (q ∷ qs) a n (met_of (q ∷ qs) a n)
     by false e r er means = rw e (meets_one e (λ x all. (both_held (apart q.0 q.1 x n) (apart_from qs x n) all).0))
-    by true e Apart er (meets_none all) = rw (e, er) (meets_none (rw e all))
-    by true e (Meets s z) er (meets_one not_one each) =
+    by true e None er (meets_none all) = rw (e, er) (meets_none (rw e all))
+    by true e (Some q') er (meets_one not_one each) =
         rw (e, er) (meets_one not_one (λ x all. each x (both_held (apart q.0 q.1 x n) (apart_from qs x n) all).1))
 
-pub met_apart : (qs : List Range) (a n : ℕ) {r : Met} → r ≡ met_of qs a n → r ≡ Apart → apart_from qs a n ≡ true
+pub met_apart : (qs : List Range) (a n : ℕ) {r : Option Range} → r ≡ met_of qs a n → r ≡ None → apart_from qs a n ≡ true
 met_apart qs a n e is = by (subst (MetMeans qs a n) (sym e ∙ is) (met_means qs a n))
   where
-    by : MetMeans qs a n Apart → apart_from qs a n ≡ true
+    by : MetMeans qs a n None → apart_from qs a n ≡ true
     by (meets_none all) = all
 
 -- what is met ends past a, and starts before the end of the n bytes; and what fits lies past it, or before it
@@ -133,11 +166,11 @@ pub record Past (qs : List Range) (a n start size : ℕ) : Type 0 where
   pub starts : start < a + n
   pub beside : (x : ℕ) → apart_from qs x n ≡ true → x < start + size → start < x + n → ⊥
 
-pub met_past : (qs : List Range) (a n : ℕ) {start size : ℕ} {r : Met} → r ≡ met_of qs a n → r ≡ Meets start size
+pub met_past : (qs : List Range) (a n : ℕ) {start size : ℕ} {r : Option Range} → r ≡ met_of qs a n → r ≡ Some (start, size)
     → Past qs a n start size
 met_past qs a n {start} {size} e is = by (subst (MetMeans qs a n) (sym e ∙ is) (met_means qs a n))
   where
-    by : MetMeans qs a n (Meets start size) → Past qs a n start size
+    by : MetMeans qs a n (Some (start, size)) → Past qs a n start size
     by (meets_one not_one each) =
         let both = not_apart_among start size a n not_one in
         let from-q = both.0.from in
@@ -156,74 +189,60 @@ met_past qs a n {start} {size} e is = by (subst (MetMeans qs a n) (sym e ∙ is)
 
 -- ---- from multiple to multiple, upwards
 
--- the bounds, as code tests them
-module _ (high n from up : ℕ) {t : Bool} (e : t ≡ lies_within (high - n) from up) (fits : n ≤ high) where
-  pub ends_within : t ≡ true → from + up + n ≤ high
-  ends_within h = let sum = within_sum (high - n) from up (sym e ∙ h) in omega arith
+-- a multiple that does not fit 64 bits is past every bound
+pub past_bounds : {step m high : ℕ} (n : ℕ) → 0 < step → ((0 < step) × (m < 2 ^ 64) → ⊥) → high < 2 ^ 64 → high < m + n
+past_bounds {m = m} {high = high} n some past small = by (dec_le (2 ^ 64) m)
+  where
+    by : Dec (2 ^ 64 ≤ m) → high < m + n
+    by (yes h) = omega arith
+    by (no h) = absurd (past (some, omega arith))
 
-  pub ends_past : t ≡ false → high < from + up + n
-  ends_past h = let sum = beyond_sum (high - n) from up (sym e ∙ h) in omega arith
-
--- none below `from` fits, and the next multiple is `up` further
-pub record Rising (qs : List Range) (low high step n from up : ℕ) : Type 0 where
+-- none below `from` fits
+pub record Rising (qs : List Range) (low high step n from : ℕ) : Type 0 where
   pub above : low ≤ from
-  pub next : NextMultiple step from up
   pub none : (x : ℕ) → x < from → FitsIn qs low high step n x → ⊥
 
 module _ {qs : List Range} {low high step n : ℕ} where
   -- more bytes than the upper bound
-  pub too_many : {before : ℕ → ℕ → Type 0} → high < n → First before (FitsIn qs low high step n) Nothing
+  pub too_many : {before : ℕ → ℕ → Type 0} → high < n → First before (FitsIn qs low high step n) None
   too_many lt = nowhere (λ x f. let below = f.below in absurd (omega arith))
 
-  pub rising_start : {up : ℕ} → NextMultiple step low up → Rising qs low high step n low up
-  rising_start next =
-      record {
-        above = omega arith;
-        next = next;
-        none = λ x lt f. let above = f.above in absurd (omega arith);
-      }
+  module _ {from a : ℕ} (going : Rising qs low high step n from) (next : NextMultiple step from a) where
+    -- none below the next multiple fits
+    none_below : (x : ℕ) → x < a → FitsIn qs low high step n x → ⊥
+    none_below x lt f = by (dec_le from x)
+      where
+        by : Dec (from ≤ x) → ⊥
+        by (yes h) = let least = next.least x h f.multiple in absurd (omega arith)
+        by (no h) = going.none x (omega arith) f
 
-  -- none below the multiple fits
-  none_below : {from up : ℕ} → Rising qs low high step n from up
-      → (x : ℕ) → x < from + up → FitsIn qs low high step n x → ⊥
-  none_below {from} {up} going x lt f = by (dec_le from x)
-    where
-      by : Dec (from ≤ x) → ⊥
-      by (yes h) = let least = going.next.least x h f.multiple in absurd (omega arith)
-      by (no h) = going.none x (omega arith) f
-
-  module _ {from up : ℕ} (going : Rising qs low high step n from up) where
-    pub rising_found : from + up + n ≤ high → apart_from qs (from + up) n ≡ true
-        → First Below (FitsIn qs low high step n) (At (record { 0 = from + up }))
+    pub rising_found : a + n ≤ high → apart_from qs a n ≡ true → First Below (FitsIn qs low high step n) (Some (record { 0 = a }))
     rising_found here all =
         let above = going.above in
-        let multiple = going.next.multiple in
-        first {a = record { 0 = from + up }}
-        (record { above = omega arith; below = here; multiple = multiple; is_apart = all }) (none_below going)
+        let further = next.above in
+        first {a = record { 0 = a }} (record { above = omega arith; below = here; multiple = next.multiple; is_apart = all }) none_below
 
-    pub rising_end : high < from + up + n → First Below (FitsIn qs low high step n) Nothing
-    rising_end past = nowhere (λ x f. by x f (dec_le (from + up) x))
+    pub rising_end : high < a + n → First Below (FitsIn qs low high step n) None
+    rising_end past = nowhere (λ x f. by x f (dec_le a x))
       where
-        by : (x : ℕ) → FitsIn qs low high step n x → Dec (from + up ≤ x) → ⊥
+        by : (x : ℕ) → FitsIn qs low high step n x → Dec (a ≤ x) → ⊥
         by x f (yes h) = let below = f.below in absurd (omega arith)
-        by x f (no h) = none_below going x (omega arith) f
+        by x f (no h) = none_below x (omega arith) f
 
-    module _ {start size from' : ℕ} (here : from + up + n ≤ high) (past : Past qs (from + up) n start size)
-        (e : from' ≡ min (start + size) high) where
+    module _ {start size from' : ℕ} (here : a + n ≤ high) (past : Past qs a n start size) (e : from' ≡ min (start + size) high) where
       pub rising_past : from < from'
-      rising_past = let some = past.some in let ends = past.ends in omega arith
+      rising_past = let some = past.some in let ends = past.ends in let further = next.above in omega arith
 
-      pub rising_on : {up' : ℕ} → NextMultiple step from' up' → Rising qs low high step n from' up'
-      rising_on next =
+      pub rising_on : Rising qs low high step n from'
+      rising_on =
           record {
             above = let above = going.above in let further = rising_past in omega arith;
-            next = next;
-            none = λ x lt f. by x lt f (dec_le (from + up) x);
+            none = λ x lt f. by x lt f (dec_le a x);
           }
         where
-          by : (x : ℕ) → x < from' → FitsIn qs low high step n x → Dec (from + up ≤ x) → ⊥
+          by : (x : ℕ) → x < from' → FitsIn qs low high step n x → Dec (a ≤ x) → ⊥
           by x lt f (yes h) = let starts = past.starts in past.beside x f.is_apart (omega arith) (omega arith)
-          by x lt f (no h) = none_below going x (omega arith) f
+          by x lt f (no h) = none_below x (omega arith) f
 
 -- ---- from multiple to multiple, downwards
 
@@ -249,12 +268,12 @@ module _ {qs : List Range} {low high step n : ℕ} where
 
   module _ {a : ℕ} (going : Falling qs low high step n a) where
     pub falling_found : low ≤ a → apart_from qs a n ≡ true
-        → First Above (FitsIn qs low high step n) (At (record { 0 = a }))
+        → First Above (FitsIn qs low high step n) (Some (record { 0 = a }))
     falling_found le all =
         first {a = record { 0 = a }}
         (record { above = le; below = going.below; multiple = going.multiple; is_apart = all }) going.none
 
-    pub falling_end : a < low → First Above (FitsIn qs low high step n) Nothing
+    pub falling_end : a < low → First Above (FitsIn qs low high step n) None
     falling_end lt = nowhere (λ x f. let above = f.above in going.none x (omega arith) f)
 
     module _ {start size : ℕ} (past : Past qs a n start size) where
@@ -266,7 +285,7 @@ module _ {qs : List Range} {low high step n : ℕ} where
           by (yes h) = let ends = past.ends in past.beside x f.is_apart (omega arith) lt
           by (no h) = going.none x (omega arith) f
 
-      pub falling_short : start < n → First Above (FitsIn qs low high step n) Nothing
+      pub falling_short : start < n → First Above (FitsIn qs low high step n) None
       falling_short lt = nowhere (λ x f. falling_beside x f (omega arith))
 
       module _ {a' : ℕ} (le : n ≤ start) (last : LastMultiple step (start - n) a') where

@@ -1,10 +1,9 @@
 -- Where a piece can go in guest memory: at the lowest, or at the highest, address at which it fits.
-use Rattle.std.specs.Prelude.{ℕ, zero, suc, ◌+◌, ◌/◌, ◌%◌, ◌≤◌, ◌<◌, max, ◌≡◌, Bool, true, ◌&&◌, List, [], ◌∷◌, length, get_or}
+use Rattle.std.specs.Prelude.{ℕ, zero, suc, ◌+◌, ◌/◌, ◌%◌, ◌≤◌, ◌<◌, max, ◌≡◌, Bool, true, ◌&&◌}
+use Rattle.std.specs.Prelude.{List, [], ◌∷◌, length, get_or, Some, None, Option}
 use Rattle.fields.specs.Ranges.{apart}
 use Rattle.guest.specs.Maps.{Range}
 use Rattle.guest.specs.Room.{room_for}
-use Rattle.guest.specs.declared.Given.{Given}
-use Rattle.guest.specs.declared.Given.TheVariants.{Nothing, At}
 use Rattle.guest.specs.declared.GuestAddress.{GuestAddress}
 use Rattle.guest.specs.declared.Memory.{Memory}
 
@@ -35,10 +34,10 @@ pub record Fits (m : Memory) (placed : List ℕ) (low high align n a : ℕ) : Ty
   pub has_room : room_for m a n ≡ true
   pub is_apart : apart_from (ranges_in placed) a n ≡ true
 
--- the first address, in an order, of which something holds; Nothing if it holds of none
-pub data First (before : ℕ → ℕ → Type 0) (P : ℕ → Type 0) : Given → Type 0 where
-  first : {a : GuestAddress} → P a.0 → ((x : ℕ) → before x a.0 → P x → ⊥) → First before P (At a)
-  nowhere : ((x : ℕ) → P x → ⊥) → First before P Nothing
+-- the first address, in an order, of which something holds; None if it holds of none
+pub data First (before : ℕ → ℕ → Type 0) (P : ℕ → Type 0) : Option GuestAddress → Type 0 where
+  first : {a : GuestAddress} → P a.0 → ((x : ℕ) → before x a.0 → P x → ⊥) → First before P (Some a)
+  nowhere : ((x : ℕ) → P x → ⊥) → First before P None
 
 -- the two orders: from the lowest address up, and from the highest down
 abbrev pub Below : ℕ → ℕ → Type 0
@@ -48,9 +47,9 @@ abbrev pub Above : ℕ → ℕ → Type 0
 Above = λ x y. y < x
 
 -- first fit: the lowest address at which n bytes fit. With more memory it may be lower
-abbrev pub FirstFit : Memory → List ℕ → ℕ → ℕ → ℕ → ℕ → Given → Type 0
+abbrev pub FirstFit : Memory → List ℕ → ℕ → ℕ → ℕ → ℕ → Option GuestAddress → Type 0
 FirstFit m placed low high align n r = First Below (Fits m placed low high align n) r
 
 -- last fit: the highest. With more memory it may be higher
-abbrev pub LastFit : Memory → List ℕ → ℕ → ℕ → ℕ → ℕ → Given → Type 0
+abbrev pub LastFit : Memory → List ℕ → ℕ → ℕ → ℕ → ℕ → Option GuestAddress → Type 0
 LastFit m placed low high align n r = First Above (Fits m placed low high align n) r

@@ -1,119 +1,96 @@
 // The search within bounds, wherever memory is: past what is placed, from multiple to multiple.
 ghost use Rattle.std.specs.Prelude.{◌≡◌, ◌<◌};
 ghost use Rattle.placing.specs.Placing.{ranges_in, First, Below, Above};
-ghost use Rattle.placing.specs.Search.{met_of, NextMultiple, LastMultiple, FitsIn, Order};
+ghost use Rattle.placing.specs.Search.{met_of, FitsIn, Order};
 
+use crate::Wanted;
 use fields::ranges;
-use guest::{Given, GuestAddress};
+use guest::GuestAddress;
 
-// What n bytes at an address meet: none of the ranges, or the one with this start and size.
+// What a search is for: n bytes at a multiple of a step, from `low` on and up to `high`.
 #[derive(Clone, Copy)]
-pub enum Met {
-    Apart,
-    Meets(u64, u64),
+pub(crate) struct Bounds {
+    pub low: u64,
+    pub high: u64,
+    pub step: u64,
+    pub n: u64,
+    ghost some: { 0 < step },
 }
 
-// The first range of the list that n bytes at an address meet.
-fn first_met(placed: &[u64], a: u64, n: u64) -> Met
+// The first range of the list that n bytes at an address meet: its start and its size.
+fn first_met(placed: &[u64], a: u64, n: u64) -> Option<(u64, u64)>
     ensures { result ≡ met_of (ranges_in placed.now) a n }
 {
-    let len = placed.len();
-    let mut at: usize = 0;
-    while at + 1 < len {
-        let start = placed[at];
-        let size = placed[at + 1];
+    for range in placed.chunks_exact(2) {
+        let (start, size) = (range[0], range[1]);
         if !ranges::are_apart(start, size, a, n) {
-            return Met::Meets(start, size);
+            return Some((start, size));
         }
-        at += 2;
     }
-    Met::Apart
+    None
 }
 
-// How far it is from a number up to the next multiple of a step; 0 if it is one.
-fn gap(v: u64, step: u64) -> u64
-    requires { 0 < step }
-    ensures { NextMultiple step v result }
-{
-    let over = v % step;
-    if over == 0 { 0 } else { step - over }
-}
+// `first_in` and `last_in` stay two, each with a `while`: a range that is met moves the place by any amount, so that no
+// iterator steps as they do, and they add and subtract in opposite directions: one function would be a `match` in each
+// line.
 
 // The lowest multiple of `step` from `low` on whose n bytes end at `high` at the latest and meet nothing in the list.
-fn first_in(placed: &[u64], low: u64, high: u64, step: u64, n: u64) -> Given
-    requires { 0 < step }
-    ensures { First Below (FitsIn (ranges_in placed.now) low high step n) result }
+fn first_in(placed: &[u64], bounds: Bounds) -> Option<GuestAddress>
+    ensures { First Below (FitsIn (ranges_in placed.now) bounds.low bounds.high bounds.step bounds.n) result }
 {
-    if high < n {
-        return Given::Nothing;
-    }
-    let last = high - n;
+    let Bounds {
+        low,
+        high,
+        step,
+        n,
+        ..
+    } = bounds;
+    let last = high.checked_sub(n)?;
     let mut from = low;
-    let mut up = gap(low, step);
-    while ranges::within(last, from, up) {
-        let a = from + up;
-        let met = first_met(placed, a, n);
-        match met {
-            Met::Apart => {
-                return Given::At(GuestAddress(a));
-            }
-            Met::Meets(start, size) => {
-                from = ranges::sum_up_to(high, start, size);
-                up = gap(from, step);
-            }
+    while let Some(a) = from.checked_next_multiple_of(step) {
+        if last < a {
+            return None;
+        }
+        match first_met(placed, a, n) {
+            None => return Some(GuestAddress(a)),
+            Some((start, size)) => from = ranges::sum_up_to(high, start, size),
         }
     }
-    Given::Nothing
+    None
 }
 
-// The greatest multiple of a step up to a number.
-fn round_down(v: u64, step: u64) -> u64
-    requires { 0 < step }
-    ensures { LastMultiple step v result }
+// The same, for the highest multiple.
+fn last_in(placed: &[u64], bounds: Bounds) -> Option<GuestAddress>
+    ensures { First Above (FitsIn (ranges_in placed.now) bounds.low bounds.high bounds.step bounds.n) result }
 {
-    v - v % step
-}
-
-// The same as `first_in`, for the highest multiple.
-fn last_in(placed: &[u64], low: u64, high: u64, step: u64, n: u64) -> Given
-    requires { 0 < step }
-    ensures { First Above (FitsIn (ranges_in placed.now) low high step n) result }
-{
-    if high < n {
-        return Given::Nothing;
-    }
-    let mut a = round_down(high - n, step);
+    let Bounds {
+        low,
+        high,
+        step,
+        n,
+        ..
+    } = bounds;
+    let mut last = high.checked_sub(n)?;
+    let mut a = last - last % step;
     while low <= a {
-        let met = first_met(placed, a, n);
-        match met {
-            Met::Apart => {
-                return Given::At(GuestAddress(a));
-            }
-            Met::Meets(start, _) => {
-                if start < n {
-                    return Given::Nothing;
-                }
-                a = round_down(start - n, step);
+        match first_met(placed, a, n) {
+            None => return Some(GuestAddress(a)),
+            Some((start, _)) => {
+                last = start.checked_sub(n)?;
+                a = last - last % step;
             }
         }
     }
-    Given::Nothing
+    None
 }
 
 // The lowest address in the bounds, or the highest.
-pub(crate) fn in_bounds(
-    lowest: bool,
-    placed: &[u64],
-    low: u64,
-    high: u64,
-    step: u64,
-    n: u64,
-) -> Given
-    requires { 0 < step }
-    ensures { First (Order lowest) (FitsIn (ranges_in placed.now) low high step n) result }
+#[tactic(auto, unfolding(crate::specs::Search::Order))]
+pub(crate) fn in_bounds(wanted: Wanted, placed: &[u64], bounds: Bounds) -> Option<GuestAddress>
+    ensures { First (Order wanted) (FitsIn (ranges_in placed.now) bounds.low bounds.high bounds.step bounds.n) result }
 {
-    if lowest {
-        return first_in(placed, low, high, step, n);
+    match wanted {
+        Wanted::Lowest => first_in(placed, bounds),
+        Wanted::Highest => last_in(placed, bounds),
     }
-    last_in(placed, low, high, step, n)
 }

@@ -14,8 +14,8 @@ use Rattle.reading.specs.declared.Taken.{Taken}
 use Rattle.reading.specs.declared.Reader.{Reader}
 use Rattle.reading.specs.Outcome.{OneOutcomeOf}
 use Rattle.reading.specs.Readers.{Takes}
-use Rattle.reading.specs.contracts.new as new
-use Rattle.reading.specs.contracts.take as take
+use Rattle.reading.specs.contracts.Reader.new as new
+use Rattle.reading.specs.contracts.Reader.take as take
 use Rattle.reading.proofs.notes.read_note_header.Kinds as read_note_header_kinds
 use Rattle.reading.proofs.notes.read_note_header.Reads as read_note_header_reads
 

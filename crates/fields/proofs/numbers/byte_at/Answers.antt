@@ -1,17 +1,12 @@
--- `numbers::byte_at`: past the end the byte is 0, within it the slice's own, which is below 256.
-use Prim.Native.Nat.{◌+◌}
-use native.Mathlib.Omega.{arith}
+-- `numbers::byte_at`: within the slice the byte is its own, which is below 256; past the end it is 0.
+use Rattle.std.proofs.Common.{◌+◌, arith}
 use Rattle.fields.proofs.NumbersLaws.{byte_read, byte_past}
 use Rattle.fields.proofs.numbers.byte_at.Goals as goal
 
-pub returns-then-n-at : goal.returns-then-n-at
-returns-then-n-at c = let args = c.args in byte_past args.s.now (args.at + args.i) (omega arith)
+pub returns-then-i-left : goal.returns-then-i-left
+returns-then-i-left c =
+    let p = c.args.at + c.args.i in
+    byte_read c.args.s.now p c.from.ensures (omega (arith, c.type_inv.s p, c.from.ensures))
 
-pub returns-then-n-at-2 : goal.returns-then-n-at-2
-returns-then-n-at-2 c = let args = c.args in byte_past args.s.now (args.at + args.i) (omega arith)
-
-pub returns : goal.returns
-returns c =
-    let args = c.args in
-    let byte-bound = c.shared_slice_known-2-1.given (args.at + args.i) in
-    byte_read args.s.now (args.at + args.i) c.wide.ensures (omega (arith, byte-bound))
+pub returns-else-i-left : goal.returns-else-i-left
+returns-else-i-left c = byte_past c.args.s.now (c.args.at + c.args.i) (omega arith)

@@ -1,21 +1,12 @@
--- `numbers::is_within`: after i turns the number is divided by 256 to the i.
-use mathlib.Core.Path.{refl}
-use native.Mathlib.Omega.{arith}
-use native.Mathlib.Numerals.{add-one}
-use Rattle.fields.proofs.NumbersLaws.{divided_none, divided_next, divided_fits}
+-- `numbers::is_within`: below 256 to the width; that power passes 64 bits if the width is 8.
+use Rattle.std.proofs.Common.{arith}
+use Rattle.fields.specs.Numbers.{fits}
+use Rattle.fields.proofs.NumbersLaws.{past_fits}
 use Rattle.fields.proofs.numbers.is_within.Goals as goal
 
-pub loop-i-init : goal.loop-i-init
-loop-i-init c = (c.bytes_of-n.ensures, omega arith, divided_none _ refl)
+pub returns-in-Some : goal.returns-in-Some
+unfolding fits
+returns-in-Some c = cc (c.in-Some.ensures.1)
 
-pub loop-i-preserved : goal.loop-i-preserved
-loop-i-preserved c =
-    let args = c.args in
-    let turn = c.loop-i in
-    (turn.invariant.0, omega arith, rw add-one (divided_next args.v turn.i turn.invariant.2))
-
-pub returns : goal.returns
-returns c =
-    let args = c.args in
-    let last = c.loop-i in
-    divided_fits last.i args.v last.invariant.2 (omega arith)
+pub returns-in-None : goal.returns-in-None
+returns-in-None c = past_fits _ _ c.bytes_of.ensures c.in-None.ensures (omega arith)

@@ -9,6 +9,3 @@ use Rattle.fields.proofs.numbers.put_le.Given as goal
 abbrev pub invariant-loop-p : goal.invariant-loop-p
 invariant-loop-p l =
     (l.end ≡ min (l.at + l.width) (length l.initial.s)) × (length l.s ≡ length l.initial.s) × (sets l.s l.p (le_bytes (l.at + l.width - l.p) l.rest) ≡ sets l.initial.s l.at (le_bytes l.width l.v))
-
-abbrev pub decreases-loop-p : goal.decreases-loop-p
-decreases-loop-p l = l.end - l.p

@@ -1,11 +1,7 @@
--- `numbers::read_le`: after i turns v is the number of the last i bytes.
-use Prim.Native.Nat.{◌≤◌, ◌-◌, ◌+◌, min}
-use mathlib.Core.Path.{◌≡◌}
+-- `numbers::read_le`: v is the number of the bytes from i on.
+use Rattle.std.proofs.Common.{◌≤◌, ◌-◌, ◌+◌, min}
 use Rattle.fields.specs.Numbers.{ReadAs}
 use Rattle.fields.proofs.numbers.read_le.Given as goal
 
 abbrev pub invariant-loop-i : goal.invariant-loop-i
-invariant-loop-i l = (l.n ≡ min l.width 8) × (l.i ≤ l.n) × ReadAs l.i l.s (l.at + (l.n - l.i)) l.v
-
-abbrev pub decreases-loop-i : goal.decreases-loop-i
-decreases-loop-i l = l.n - l.i
+invariant-loop-i l = (l.i ≤ min l.width 8) × ReadAs (min l.width 8 - l.i) l.s (l.at + l.i) l.v

@@ -1,14 +1,11 @@
 -- `rows::put_rows`: the numbers from i on, written from p on, make of s what all make of it as it was.
 use Prim.Native.Nat.{◌+◌, min}
-use mathlib.Core.Path.{refl, sym, ap, ◌∙◌}
+use mathlib.Core.Path.{sym, ap, ◌∙◌}
 use native.Mathlib.Omega.{arith}
 use native.Mathlib.Numerals.{add-one}
 use Rattle.fields.specs.Rows.{field_width}
 use Rattle.fields.proofs.RowsLaws.{rows_put_end, rows_put_next}
 use Rattle.fields.proofs.rows.put_rows.Goals as goal
-
-pub loop-i-init : goal.loop-i-init
-loop-i-init c = (omega arith, refl, refl)
 
 pub loop-i-preserved : goal.loop-i-preserved
 loop-i-preserved c =
@@ -22,9 +19,6 @@ loop-i-preserved c =
           (rows_put_next (field_width args.widths.now) args.numbers.now turn.i turn.s turn.p (omega arith) c.field_width-width.ensures put.ensures next
           ∙ turn.invariant.2),
     )
-
-pub shape_of-s : goal.shape_of-s
-shape_of-s c = c.loop-i.invariant.1
 
 pub returns : goal.returns
 returns c =

@@ -1,5 +1,5 @@
 -- `rows::put_rows`: the numbers from i on, written from p on, make of s what all make of it as it was.
-use Prim.Native.Nat.{◌-◌, ◌≤◌}
+use Prim.Native.Nat.{◌≤◌}
 use mathlib.Core.Path.{◌≡◌}
 use lib.ListN.{length, drop}
 use lib.Seq.{sets}
@@ -10,6 +10,3 @@ abbrev pub invariant-loop-i : goal.invariant-loop-i
 invariant-loop-i l =
     (l.i ≤ length l.numbers) × (length l.s ≡ length l.initial.s)
     × (sets l.s l.p (rows_bytes (field_width l.widths) (drop l.i l.numbers) l.i) ≡ sets l.initial.s l.at (rows_bytes (field_width l.widths) l.numbers 0))
-
-abbrev pub decreases-loop-i : goal.decreases-loop-i
-decreases-loop-i l = length l.numbers - l.i

@@ -1,17 +1,13 @@
 -- `rows::read_rows`: the numbers still to be read, from i on and at p, make of the list what all make of it as it was.
 use Prim.Native.Nat.{◌-◌}
-use mathlib.Core.Path.{refl, sym, ◌∙◌}
+use mathlib.Core.Path.{sym, ◌∙◌}
 use native.Mathlib.Omega.{arith}
-use native.Mathlib.Nat.{sub-zero}
 use native.Mathlib.Numerals.{add-one}
 use lib.ListN.{length, length-set}
 use Rattle.fields.specs.Rows.{field_width, rows_numbers}
 use Rattle.fields.proofs.CopyingLaws.{sets_whole}
 use Rattle.fields.proofs.RowsLaws.{width_small, numbers_count, rows_read_end, rows_read_next}
 use Rattle.fields.proofs.rows.read_rows.Goals as goal
-
-pub loop-i-init : goal.loop-i-init
-loop-i-init c = (omega arith, refl, rw sub-zero)
 
 pub loop-i-preserved : goal.loop-i-preserved
 loop-i-preserved c =
@@ -26,9 +22,6 @@ loop-i-preserved c =
           c.read_le.ensures.value c.sum_up_to-p.ensures
           ∙ turn.invariant.2),
     )
-
-pub shape_of-numbers : goal.shape_of-numbers
-shape_of-numbers c = c.loop-i.invariant.1
 
 pub returns : goal.returns
 returns c =

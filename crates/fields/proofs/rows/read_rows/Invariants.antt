@@ -11,6 +11,3 @@ invariant-loop-i l =
     (l.i ≤ length l.initial.numbers) × (length l.numbers ≡ length l.initial.numbers)
     × (sets l.numbers l.i (rows_numbers (field_width l.widths) (length l.initial.numbers - l.i) l.s l.p l.i)
     ≡ sets l.initial.numbers 0 (rows_numbers (field_width l.widths) (length l.initial.numbers) l.s l.at 0))
-
-abbrev pub decreases-loop-i : goal.decreases-loop-i
-decreases-loop-i l = length l.initial.numbers - l.i

@@ -1,44 +1,20 @@
--- `maps::same`: what is left of the ranges decides as the whole does.
-use Prim.Native.Nat.{◌+◌, ◌-◌}
-use mathlib.Core.Path.{sym, ◌∙◌}
-use native.Mathlib.Omega.{arith}
-use native.Mathlib.Nat.{sub-zero}
-use native.Mathlib.Numerals.{add-one}
-use Rattle.guest.proofs.MapsLaws.{same_next, other_start, other_size, same_end, same_counted, other_count}
+-- `maps::same`: the counts first, then each range that is read.
+use Rattle.std.proofs.Common.{◌∙◌, sym, ◌&&◌, ℕ, rules, refl, arith, nat_eq, get_or}
+use Rattle.std.proofs.lemmas.Iterator.{YieldsList-from_range}
+use Rattle.std.proofs.lemmas.Iterator.Search.{all_from_yields_List}
+use borrow.Author.Tests.{ne_eqb}
+use Rattle.guest.proofs.MapsLaws.{same_all, same_counted, other_count}
 use Rattle.guest.proofs.maps.same.Goals as goal
 
 pub returns-then-a-b : goal.returns-then-a-b
-returns-then-a-b c = sym (other_count c.args.a c.args.b c.if-a-b.true)
+returns-then-a-b c =
+    let a = c.args.a.now in
+    let b = c.args.b.now in
+    let k = c.len.result in
+    all_from_yields_List (λ (i : ℕ). nat_eq (get_or a.starts i 0) (get_or b.starts i 0) && nat_eq (get_or a.sizes i 0) (get_or b.sizes i 0)) _ _ _ c.all.ensures.ran
+    (YieldsList-from_range 0 k k refl (omega arith)) (λ x b q k. search rules)
+    ∙ same_all k 0 a.starts a.sizes b.starts b.sizes
+    ∙ same_counted a b c.if-a-b.true c.len.ensures
 
-pub loop-i-init : goal.loop-i-init
-loop-i-init c = (omega arith, rw sub-zero)
-
-pub returns-then-starts-i : goal.returns-then-starts-i
-returns-then-starts-i c =
-    let args = c.args in
-    let at_turn = c.loop-i in
-    sym (same_counted args.a args.b c.if-a-b.false c.listed-count.ensures ∙ sym at_turn.invariant.1
-    ∙ other_start args.a.starts args.a.sizes args.b.starts args.b.sizes at_turn.i (c.listed-count.result - (at_turn.i + 1)) (omega arith) c.if-starts-i.true)
-
-pub returns-then-sizes-i : goal.returns-then-sizes-i
-returns-then-sizes-i c =
-    let args = c.args in
-    let at_turn = c.loop-i in
-    sym (same_counted args.a args.b c.if-a-b.false c.listed-count.ensures ∙ sym at_turn.invariant.1
-    ∙ other_size args.a.starts args.a.sizes args.b.starts args.b.sizes at_turn.i (c.listed-count.result - (at_turn.i + 1)) (omega arith) c.if-starts-i.false c.if-sizes-i.true)
-
-pub loop-i-preserved : goal.loop-i-preserved
-loop-i-preserved c =
-    let args = c.args in
-    let at_turn = c.loop-i in (
-      omega arith,
-      sym (same_next args.a.starts args.a.sizes args.b.starts args.b.sizes at_turn.i (c.listed-count.result - (at_turn.i + 1)) (at_turn.i + 1) (omega arith) (add-one at_turn.i) c.if-starts-i.false c.if-sizes-i.false)
-          ∙ at_turn.invariant.1,
-    )
-
-pub returns : goal.returns
-returns c =
-    let args = c.args in
-    let at-end = c.loop-i in
-    sym (same_counted args.a args.b c.if-a-b.false c.listed-count.ensures ∙ sym at-end.invariant.1
-    ∙ same_end args.a.starts args.a.sizes args.b.starts args.b.sizes at-end.i (omega arith))
+pub returns-else-a-b : goal.returns-else-a-b
+returns-else-a-b c = ne_eqb c.args.a.now.count c.args.b.now.count c.if-a-b.false ∙ sym (other_count c.args.a.now c.args.b.now c.if-a-b.false)

@@ -1,38 +1,36 @@
 -- `search::first_met`: the first that is met of the rest of the list is the first of the whole.
-use Prim.Native.Nat.{◌+◌, ◌-◌, ◌/◌}
-use mathlib.Core.Path.{refl}
-use native.Mathlib.Omega.{arith}
-use native.Mathlib.Nat.{sub-zero}
-use lib.ListN.{length}
-use Rattle.answers.proofs.PickLaws.{failed, held}
-use Rattle.placing.proofs.SearchLaws.{met_next, met_here, met_end}
+use Rattle.std.proofs.Common.{◌∙◌, sym, arith}
+use Rattle.std.specs.Slice.Iter.{chunks_exact_rest}
+use Rattle.placing.proofs.SearchLaws.{chunk_meets, chunk_apart, chunks_end}
 use Rattle.placing.proofs.search.first_met.Goals as goal
-
-pub loop-at-init : goal.loop-at-init
-loop-at-init c = (omega arith, rw sub-zero)
 
 pub returns-then-not-are_apart : goal.returns-then-not-are_apart
 returns-then-not-are_apart c =
     let args = c.args in
-    let at = c.loop-at.at in
-    let inv = c.loop-at.invariant in
-    let len = length args.placed.now in
-    met_here args.placed.now args.a args.n ((len - (at + 2)) / 2) at (at + 1) (omega arith) (omega arith) refl
-    (failed c.are_apart.ensures c.if-not-are_apart.true-raw) inv.1
+    let turn = c.loop-range in
+    let step = c.in-Some.ensures.steps.1 in
+    sym (turn.invariant.met
+    ∙ chunk_meets (chunks_exact_rest turn.range-iterator) args.a args.n c.in-Some.range.now (chunks_exact_rest c.next.new.self) step.0 (step.1 ∙ turn.invariant.pairs)
+    (sym c.are_apart.ensures ∙ c.if-not-are_apart.true))
 
-pub loop-at-preserved : goal.loop-at-preserved
-loop-at-preserved c =
+pub loop-range-preserved : goal.loop-range-preserved
+loop-range-preserved c =
     let args = c.args in
-    let at = c.loop-at.at in
-    let inv = c.loop-at.invariant in
-    let len = length args.placed.now in (
-      omega arith,
-      met_next args.placed.now args.a args.n ((len - (at + 2)) / 2) at (at + 1) (at + 2) (omega arith)
-          (omega arith) (omega arith) refl
-          (held c.are_apart.ensures c.if-not-are_apart.false-raw) inv.1,
-    )
+    let turn = c.loop-range in
+    let steps = c.in-Some.ensures.steps in
+    let pairs = steps.0 ∙ turn.invariant.pairs in
+    record {
+      can = omega arith;
+      finite = tt;
+      pairs = pairs;
+      met =
+          turn.invariant.met
+          ∙ chunk_apart (chunks_exact_rest turn.range-iterator) args.a args.n c.in-Some.range.now (chunks_exact_rest c.next.new.self) steps.1.0 (steps.1.1 ∙ turn.invariant.pairs)
+          (sym c.are_apart.ensures ∙ c.if-not-are_apart.false);
+    }
 
 pub returns : goal.returns
 returns c =
-    let args = c.args in
-    met_end args.placed.now args.a args.n c.loop-at.at (omega arith) c.loop-at.invariant.1
+    let turn = c.loop-range in
+    let step = c.in-None.ensures.steps.1 in
+    sym (turn.invariant.met ∙ chunks_end (chunks_exact_rest turn.range-iterator) c.args.a c.args.n (omega (arith, step.0, turn.invariant.pairs)))

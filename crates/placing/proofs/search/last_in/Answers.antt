@@ -1,55 +1,46 @@
 -- `search::last_in`: none above the multiple that is tried fits.
-use native.Mathlib.Omega.{arith}
+use Rattle.std.proofs.Common.{arith}
 use Rattle.placing.specs.Placing.{ranges_in}
 use Rattle.placing.proofs.SearchLaws as laws
-use Rattle.placing.proofs.SearchLaws.{met_apart, met_past}
+use Rattle.placing.proofs.SearchLaws.{down_last, met_apart, met_past}
 use Rattle.placing.proofs.search.last_in.Goals as goal
 
-pub returns-then-high-n : goal.returns-then-high-n
-returns-then-high-n c = laws.too_many c.if-high-n.true
-
-pub round_down-a-requires : goal.round_down-a-requires
-round_down-a-requires c = c.requires
+pub returns-in_err-last : goal.returns-in_err-last
+returns-in_err-last c = let short = c.in_err-last.ensures in rw c.from_residual.ensures (laws.too_many (omega (arith, short)))
 
 pub loop-a-init : goal.loop-a-init
-loop-a-init c = laws.falling_start (omega arith) c.round_down-a.ensures
+loop-a-init c =
+    let last = c.in_ok-last.last in
+    let room = c.in_ok-last.ensures in
+    laws.falling_start room.0 (down_last last c.args.bounds.step c.args.bounds.some room.1)
 
-pub returns-in-Apart : goal.returns-in-Apart
-returns-in-Apart c =
+pub returns-in-None : goal.returns-in-None
+returns-in-None c =
     let args = c.args in
-    let at = c.loop-a in
-    let found = c.first_met-met.ensures in
-    laws.falling_found at.invariant (omega arith)
-    (met_apart (ranges_in args.placed.now) at.a args.n found c.in-Apart.is)
+    laws.falling_found c.loop-a.invariant c.loop-a-test.true (met_apart (ranges_in args.placed.now) c.loop-a.a args.bounds.n c.first_met.ensures c.in-None.is)
 
-pub returns-then-start-n : goal.returns-then-start-n
-returns-then-start-n c =
+pub returns-in_err-last-in-Some : goal.returns-in_err-last-in-Some
+returns-in_err-last-in-Some c =
     let args = c.args in
-    let at = c.loop-a in
-    let found = c.first_met-met.ensures in
-    let past = met_past (ranges_in args.placed.now) at.a args.n found c.in-Meets.is in
-    laws.falling_short at.invariant past c.if-start-n.true
-
-pub round_down-a-requires-in-Meets : goal.round_down-a-requires-in-Meets
-round_down-a-requires-in-Meets c = c.requires
+    let past = met_past (ranges_in args.placed.now) c.loop-a.a args.bounds.n c.first_met.ensures c.in-Some.is in
+    let short = c.in_err-last-in-Some.ensures in
+    rw c.from_residual-in_err-last-in-Some.ensures (laws.falling_short c.loop-a.invariant past (omega (arith, short)))
 
 pub loop-a-smaller : goal.loop-a-smaller
 loop-a-smaller c =
     let args = c.args in
-    let at = c.loop-a in
-    let found = c.first_met-met.ensures in
-    let is = c.in-Meets.is in
-    let past = met_past (ranges_in args.placed.now) at.a args.n found is in
-    laws.falling_past at.invariant past (omega arith) c.round_down-a-in-Meets.ensures
+    let past = met_past (ranges_in args.placed.now) c.loop-a.a args.bounds.n c.first_met.ensures c.in-Some.is in
+    let room = c.in_ok-last-in-Some.ensures in
+    let last = c.in_ok-last-in-Some.last in
+    laws.falling_past c.loop-a.invariant past room.0 (down_last last args.bounds.step c.args.bounds.some room.1)
 
 pub loop-a-preserved : goal.loop-a-preserved
 loop-a-preserved c =
     let args = c.args in
-    let at = c.loop-a in
-    let found = c.first_met-met.ensures in
-    let is = c.in-Meets.is in
-    let past = met_past (ranges_in args.placed.now) at.a args.n found is in
-    laws.falling_on at.invariant past (omega arith) c.round_down-a-in-Meets.ensures
+    let past = met_past (ranges_in args.placed.now) c.loop-a.a args.bounds.n c.first_met.ensures c.in-Some.is in
+    let room = c.in_ok-last-in-Some.ensures in
+    let last = c.in_ok-last-in-Some.last in
+    laws.falling_on c.loop-a.invariant past room.0 (down_last last args.bounds.step c.args.bounds.some room.1)
 
 pub returns : goal.returns
-returns c = laws.falling_end c.loop-a.invariant (omega arith)
+returns c = laws.falling_end c.loop-a.invariant c.loop-a-test.false
