@@ -1,6 +1,7 @@
 -- The counted size never exceeds the capacity: every accepted call leaves a line that fits, so does every making that is accepted, and so
 -- does any run of calls. `never_exceeds` is the theorem; `str_fits` and its like say it of each call. That a capacity never exceeds the limit
 -- stands beside each making: `new_most` and `from_most` (file MakingLaws).
+use Rattle.std.specs.Prelude.{Ok, Err, Option}
 use Prim.Native.Nat.{ℕ, ◌+◌}
 use mathlib.Core.Path.{◌≡◌, refl}
 use mathlib.Core.Bool.{not}
@@ -10,14 +11,10 @@ use lib.Dec.{eqb}
 use lib.ListN.{length}
 use borrow.Author.Tests.{leb-true}
 use Rattle.answers.specs.Pick.{pick}
-use Rattle.answers.specs.Tests.{Test, AllHold}
+use Rattle.answers.specs.Tests.{Test, AllHold, Check, pass}
 use Rattle.answers.specs.declared.Refusal.TheVariants as refusal
-use Rattle.answers.specs.declared.Gate.{Gate}
-use Rattle.answers.specs.declared.Gate.TheVariants.{Open, Shut}
 use Rattle.answers.proofs.TestsLaws.{open_all, hold_right}
 use Rattle.cmdline.specs.Fitting.{Fits}
-use Rattle.cmdline.specs.declared.Answer.TheVariants.{Accepted}
-use Rattle.cmdline.specs.declared.DeviceId.{DeviceId}
 use Rattle.slugs.specs.Trimming.{trim}
 use Rattle.slugs.specs.Bytes.{equals}
 use Rattle.slugs.specs.Keys.{key_tests}
@@ -57,7 +54,7 @@ pub multiple_fits : (t : Text) (key values ends : List ℕ) → AllHold (insert_
 unfolding insert_multiple
 multiple_fits t key values ends hold = after_fits (list_pre key values ends) t (key ++ listed equals 0 ends values) hold
 
-pub device_fits : (t : Text) (size base irq : ℕ) (id : DeviceId) → AllHold (add_device t size base irq id).tests → Fits (add_device t size base irq id).text
+pub device_fits : (t : Text) (size base irq : ℕ) (id : Option ℕ) → AllHold (add_device t size base irq id).tests → Fits (add_device t size base irq id).text
 unfolding add_device
 device_fits t size base irq id hold = after_fits ((not (eqb size 0), refusal.MmioSize) ∷ []) t (device_text size base irq id) hold
 
@@ -76,9 +73,9 @@ from_fits s c hold = leb-true (counted (parted s c)) c hold.1.0
 pub settled_fits : (t : Text) (p : Plan) → (AllHold p.tests → Fits p.text) → Fits t → Fits (settled (plan_gate p) t p.text)
 settled_fits t p told f = split (plan_gate p) refl
   where
-    split : (g : Gate) → plan_gate p ≡ g → Fits (settled g t p.text)
-    split Open e = told (open_all p.tests e)
-    split (Shut r) e = f
+    split : (g : Check) → plan_gate p ≡ g → Fits (settled g t p.text)
+    split (Ok _) e = told (open_all p.tests e)
+    split (Err r) e = f
 
 call_fits : (k : Calls.Call) (t : Text) → Fits t → Fits (Calls.calling k t).text
 unfolding Calls.calling
@@ -97,14 +94,14 @@ calls_fit [] t f = f
 calls_fit (k ∷ ks) t f = calls_fit ks (Calls.calling k t).text (call_fits k t f)
 
 -- a making that says that it is accepted
-pub made_fits : (p : Plan) (t : Text) → (AllHold p.tests → Fits p.text) → answer_of (plan_gate p) ≡ Accepted → Fits (settled (plan_gate p) t p.text)
+pub made_fits : (p : Plan) (t : Text) → (AllHold p.tests → Fits p.text) → answer_of (plan_gate p) ≡ pass → Fits (settled (plan_gate p) t p.text)
 made_fits p t told e = split (plan_gate p) refl e
   where
-    split : (g : Gate) → plan_gate p ≡ g → answer_of g ≡ Accepted → Fits (settled g t p.text)
-    split Open o a = told (open_all p.tests o)
-    split (Shut r) o a = let z : ◌≡◌ {A = ℕ} 0 1 = cc in absurd (omega arith)
+    split : (g : Check) → plan_gate p ≡ g → answer_of g ≡ pass → Fits (settled g t p.text)
+    split (Ok _) o a = told (open_all p.tests o)
+    split (Err r) o a = let z : ◌≡◌ {A = ℕ} 0 1 = cc in absurd (omega arith)
 
-making_fits : (m : Calls.Making) (c : ℕ) → (Calls.making m c).said ≡ Calls.answered Accepted → Fits (Calls.making m c).text
+making_fits : (m : Calls.Making) (c : ℕ) → (Calls.making m c).said ≡ Calls.answered pass → Fits (Calls.making m c).text
 unfolding Calls.making
 making_fits Calls.makes_new c e = made_fits (new c) _ (new_fits c) (same e)
   where
@@ -117,6 +114,6 @@ making_fits (Calls.makes_from s) c e = made_fits (try_from s c) _ (from_fits s c
 
 -- ---- the theorem
 
-pub never_exceeds : (m : Calls.Making) (ks : List Calls.Call) (c : ℕ) → (Calls.making m c).said ≡ Calls.answered Accepted → Fits (Calls.run m ks c).text
+pub never_exceeds : (m : Calls.Making) (ks : List Calls.Call) (c : ℕ) → (Calls.making m c).said ≡ Calls.answered pass → Fits (Calls.run m ks c).text
 unfolding Calls.run
 never_exceeds m ks c e = calls_fit ks (Calls.making m c).text (making_fits m c e)

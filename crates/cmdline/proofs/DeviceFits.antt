@@ -1,4 +1,5 @@
 -- The text of a device has at most 80 bytes, whatever its numbers: `at_most_80`.
+use Rattle.std.specs.Prelude.{Some, None, Option}
 use Prim.Native.Nat.{ℕ, ◌+◌, ◌/◌, ◌%◌, ◌^◌, ◌≤◌, ◌<◌}
 use mathlib.Core.Path.{◌≡◌, refl}
 use mathlib.Core.List.{List, [], ◌∷◌, ◌++◌}
@@ -7,8 +8,6 @@ use native.Mathlib.Omega.{arith}
 use lib.Dec.{eqb, lit<, lit≤}
 use lib.ListN.{length, length-append}
 use Rattle.answers.proofs.PickLaws.{pick_with}
-use Rattle.cmdline.specs.declared.DeviceId.{DeviceId}
-use Rattle.cmdline.specs.declared.DeviceId.TheVariants.{Nothing, Number}
 use Rattle.cmdline.specs.Digits.{decimal, hexadecimal}
 use Rattle.cmdline.specs.Device.{size_text, front_text, id_text, device_text}
 use Rattle.cmdline.proofs.DigitsLaws.{digits_few}
@@ -43,11 +42,11 @@ front_few size base irq hs hb hi =
     let d = decimal_few irq hi in
     simp length-append (omega arith)
 
-pub at_most_80 : (size base irq : ℕ) (id : DeviceId) → size < 2 ^ 64 → base < 2 ^ 64 → irq < 2 ^ 32 → ((x : ℕ) → id ≡ Number x → x < 2 ^ 32)
+pub at_most_80 : (size base irq : ℕ) (id : Option ℕ) → size < 2 ^ 64 → base < 2 ^ 64 → irq < 2 ^ 32 → ((x : ℕ) → id ≡ Some x → x < 2 ^ 32)
     → length (device_text size base irq id) ≤ 80
 unfolding id_text
-at_most_80 size base irq Nothing hs hb hi hx = let f = front_few size base irq hs hb hi in simp length-append (omega arith)
-at_most_80 size base irq (Number x) hs hb hi hx =
+at_most_80 size base irq None hs hb hi hx = let f = front_few size base irq hs hb hi in simp length-append (omega arith)
+at_most_80 size base irq (Some x) hs hb hi hx =
     let f = front_few size base irq hs hb hi in
     let e = decimal_few x (hx x refl) in
     simp length-append (omega arith)

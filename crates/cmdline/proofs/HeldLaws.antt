@@ -7,29 +7,15 @@ use native.Mathlib.Omega.{arith}
 use lib.ListN.{length, length-append, take}
 use lib.Seq.{sets, length-take-le}
 use borrow.Author.Tests.{leb-true}
-use Rattle.answers.specs.Tests.{Test, asked_all, AllHold}
-use Rattle.answers.specs.declared.Gate.{Gate}
-use Rattle.answers.specs.declared.Gate.TheVariants.{Open}
-use Rattle.answers.proofs.TestsLaws.{open_all}
 use Rattle.cmdline.specs.declared.Cmdline.{Cmdline}
-use Rattle.cmdline.specs.declared.Reply.{Reply}
 use Rattle.cmdline.specs.Limit.{limit}
 use Rattle.cmdline.specs.Text.{Text, counted, boot_gap, init_gap, boot_room, init_room}
-use Rattle.cmdline.specs.Insertion.{answer_of, with_boot, with_init}
+use Rattle.cmdline.specs.Insertion.{with_boot, with_init}
 use Rattle.slugs.specs.Stored.{Stored}
-use Rattle.cmdline.specs.Held.{text_of, holding, clamped_line, settled_reply}
+use Rattle.cmdline.specs.Held.{text_of, holding, clamped_line}
 use Rattle.slugs.proofs.ListLaws.{sets_own, sets_same}
 use Rattle.cmdline.proofs.TextLaws.{size_boot, init_asked, joined_long}
-use Rattle.cmdline.proofs.PlanLaws.{settled_as}
 use Rattle.slugs.specs.Joining.{space_after, joined}
-
--- a call that is settled by a gate, where the new line matters only if every test holds
-pub settles : (old new : Cmdline) (ts : List Test) (g : Gate) (next : Cmdline) {r : Reply} → r ≡ settled_reply g old next → g ≡ asked_all Open ts
-    → (AllHold ts → next ≡ new) → r ≡ settled_reply (asked_all Open ts) old new
-settles old new ts g next er eg en =
-    er
-    ∙ ap (λ (x : Gate). settled_reply x old next) eg
-    ∙ ap (λ (x : Cmdline). record { answer = answer_of (asked_all Open ts); line = x }) (settled_as (asked_all Open ts) old (λ o. en (open_all ts o)))
 
 -- a buffer with s put after its text, where both have room: it holds the joined text, and the place after it is the text's length
 put_held : (buffer s d : List ℕ) (own n r : ℕ) → length buffer ≡ limit → n ≡ min own limit → length (joined (take (min own limit) buffer) s) ≤ limit

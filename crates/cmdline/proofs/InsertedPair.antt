@@ -1,10 +1,10 @@
 -- An accepted `insert` puts exactly key, equals sign and value after what stood there, with the separator as it is counted:
 -- `inserted_pair`. The same of the struct: `inserted_line` (file HeldTexts).
+use Rattle.answers.specs.Tests.{pass}
 use Prim.Native.Nat.{ℕ}
 use mathlib.Core.Path.{◌≡◌, refl}
 use mathlib.Core.List.{List, ◌++◌}
 use lib.ListN.{length}
-use Rattle.answers.specs.declared.Gate.TheVariants.{Open}
 use Rattle.answers.proofs.TestsLaws.{open_all, hold_left}
 use Rattle.slugs.specs.Keys.{key_tests}
 use Rattle.slugs.specs.Values.{value_tests, pair}
@@ -14,7 +14,7 @@ use Rattle.cmdline.specs.Insertion.{plan_gate, insert, insert_str}
 use Rattle.cmdline.proofs.TextLaws.{joined_long, size_after_boot}
 use Rattle.slugs.proofs.ValuesLaws.{pair_told}
 
-pub inserted_pair : (t : Text) (key value : List ℕ) → plan_gate (insert t key value) ≡ Open → Inserted t (insert t key value).text key value
+pub inserted_pair : (t : Text) (key value : List ℕ) → plan_gate (insert t key value) ≡ pass → Inserted t (insert t key value).text key value
 unfolding insert insert_str
 inserted_pair t key value accepted =
     let hold = open_all (insert t key value).tests accepted in

@@ -1,5 +1,6 @@
 -- Never smaller for more room: calls on a new line, its making counted among them, of which none was refused for room, say the same and
 -- leave the same texts under any larger allowed capacity. `larger_capacity` is the theorem.
+use Rattle.std.specs.Prelude.{Ok, Err}
 use Prim.Native.Nat.{ℕ, ◌+◌, ◌≤◌}
 use mathlib.Core.Path.{◌≡◌, refl, ap}
 use mathlib.Core.Bool.{Bool, true, false, not}
@@ -8,11 +9,9 @@ use native.Mathlib.Omega.{arith}
 use lib.Dec.{leb, eqb}
 use lib.ListN.{length}
 use Rattle.answers.specs.Pick.{pick}
-use Rattle.answers.specs.Tests.{Test, asked, asked_all}
+use Rattle.answers.specs.Tests.{Test, asked, asked_all, Check, pass}
 use Rattle.answers.specs.Keeping.{ShutBy, shut_by}
 use Rattle.answers.specs.declared.Refusal.TheVariants as refusal
-use Rattle.answers.specs.declared.Gate.{Gate}
-use Rattle.answers.specs.declared.Gate.TheVariants.{Open, Shut}
 use Rattle.answers.proofs.KeepingLaws.{Widens, end, stays, grows, row_keeps, kept, leb_grows, widens_append, widens_same}
 use Rattle.cmdline.specs.Limit.{allowed}
 use Rattle.slugs.specs.Trimming.{trim}
@@ -35,14 +34,14 @@ same_step c s = record { said = s.said; text = under c s.text }
 widens_after : (pre : List Test) {ts ts' : List Test} → Widens Calls.ForRoom ts ts' → Widens Calls.ForRoom (pre ++ ts) (pre ++ ts')
 widens_after pre w = widens_append Calls.ForRoom (widens_same Calls.ForRoom pre) (λ h. w)
 
--- a gate that is not shut for room is the same under a row that widens
-same_gate : (ts ts' : List Test) → Widens Calls.ForRoom ts ts' → (Calls.RefusedForRoom (Calls.answered (answer_of (asked_all Open ts))) → ⊥)
-    → asked_all Open ts' ≡ asked_all Open ts
-same_gate ts ts' w none = kept (ShutBy Calls.ForRoom) (row_keeps Calls.ForRoom w) (λ shut. none (told (asked_all Open ts) shut))
+-- a check that does not fail for room is the same under a row that widens
+same_gate : (ts ts' : List Test) → Widens Calls.ForRoom ts ts' → (Calls.RefusedForRoom (Calls.answered (answer_of (asked_all pass ts))) → ⊥)
+    → asked_all pass ts' ≡ asked_all pass ts
+same_gate ts ts' w none = kept (ShutBy Calls.ForRoom) (row_keeps Calls.ForRoom w) (λ shut. none (told (asked_all pass ts) shut))
   where
-    told : (g : Gate) → ShutBy Calls.ForRoom g → Calls.RefusedForRoom (Calls.answered (answer_of g))
-    told Open x' = elim x' [ ]
-    told (Shut r) (shut_by f) = Calls.call_refused f
+    told : (g : Check) → ShutBy Calls.ForRoom g → Calls.RefusedForRoom (Calls.answered (answer_of g))
+    told (Ok _) x' = elim x' [ ]
+    told (Err r) (shut_by f) = Calls.call_refused f
 
 -- a call by a plan: where its tests widen and its texts are the same but for the capacity
 module _ (c : ℕ) (t : Text) (p p' : Plan) where
@@ -50,24 +49,24 @@ module _ (c : ℕ) (t : Text) (p p' : Plan) where
       → Calls.planned p' (under c t) ≡ same_step c (Calls.planned p t)
   same_planned w e none = rw (same_gate p.tests p'.tests w none, e) (split (plan_gate p))
     where
-      split : (g : Gate) → ◌≡◌ {A = Calls.Step}
+      split : (g : Check) → ◌≡◌ {A = Calls.Step}
           (record { said = Calls.answered (answer_of g); text = settled g (under c t) (under c p.text) })
           (record { said = Calls.answered (answer_of g); text = under c (settled g t p.text) })
-      split Open = refl
-      split (Shut r) = refl
+      split (Ok _) = refl
+      split (Err r) = refl
 
   same_capacity : p.text.capacity ≡ t.capacity → (Calls.planned p t).text.capacity ≡ t.capacity
   same_capacity e = split (plan_gate p)
     where
-      split : (g : Gate) → (settled g t p.text).capacity ≡ t.capacity
-      split Open = e
-      split (Shut r) = refl
+      split : (g : Check) → (settled g t p.text).capacity ≡ t.capacity
+      split (Ok _) = e
+      split (Err r) = refl
 
 -- what is written has nothing to do with the capacity
-same_written : (c : ℕ) (t : Text) (g : Gate)
+same_written : (c : ℕ) (t : Text) (g : Check)
     → ◌≡◌ {A = Calls.Said} (Calls.wrote (written_of g (under c t)) (written_bytes g (under c t))) (Calls.wrote (written_of g t) (written_bytes g t))
-same_written c t Open = refl
-same_written c t (Shut r) = refl
+same_written c t (Ok _) = refl
+same_written c t (Err r) = refl
 
 module _ (c : ℕ) (t : Text) (more : t.capacity ≤ c) where
   str_widens : (slug : List ℕ) → Widens Calls.ForRoom (insert_str t slug).tests (insert_str (under c t) slug).tests

@@ -1,5 +1,4 @@
 pub mod TextLaws
-pub mod PlanLaws
 pub mod WritingLaws
 pub mod HeldLaws
 pub mod InPlaceLaws

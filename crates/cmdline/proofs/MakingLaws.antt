@@ -1,28 +1,27 @@
 -- Laws of how a line is made.
-use Prim.Native.Nat.{ℕ, ◌≤◌, min}
-use mathlib.Core.Path.{◌≡◌, ap, ◌∙◌}
-use mathlib.Core.Bool.{Bool, true}
+use Prim.Native.Nat.{ℕ, ◌≤◌}
+use mathlib.Core.Path.{◌≡◌, sym, ap, ◌∙◌}
+use Rattle.std.specs.Prelude.{Ok, Err}
+use mathlib.Core.Bool.{true}
 use mathlib.Core.List.{List}
 use native.Mathlib.Omega.{arith}
 use lib.Dec.{leb}
 use lib.ListN.{length, take, drop, replicate, length-replicate}
 use borrow.Author.Tests.{leb-true, le-leb}
-use Rattle.answers.specs.Tests.{asked, asked_all, AllHold}
-use Rattle.answers.specs.declared.Refusal.TheVariants as refusal
-use Rattle.answers.specs.declared.Gate.{Gate}
-use Rattle.answers.specs.declared.Gate.TheVariants.{Open}
+use Rattle.answers.specs.Tests.{asked_all, AllHold, Check, pass}
+use Rattle.answers.specs.declared.Refusal.{Refusal}
+use Rattle.answers.proofs.TestsLaws.{open_all}
+use Rattle.cmdline.specs.Insertion.{Plan, plan_gate, answer_of, settled}
 use Rattle.cmdline.specs.declared.Cmdline.{Cmdline}
-use Rattle.cmdline.specs.declared.Reply.{Reply}
 use Rattle.cmdline.specs.Limit.{limit, allowed}
 use Rattle.cmdline.specs.Text.{size_of}
 use Rattle.slugs.specs.Trimming.{trim}
 use Rattle.slugs.specs.Splitting.{split_at, boot_part, init_part}
-use Rattle.cmdline.specs.Making.{new, parted, size_tests, try_from}
+use Rattle.cmdline.specs.Making.{new, size_tests, try_from}
 use Rattle.slugs.specs.Stored.{Stored}
-use Rattle.cmdline.specs.Held.{blank_line, clamped_line, holding, settled_reply, made_of}
+use Rattle.cmdline.specs.Held.{blank_line, holding, made_of, line_by, line_of}
 use Rattle.slugs.proofs.BytesLaws.{both_left, both_right}
 use Rattle.cmdline.proofs.TextLaws.{size_boot, size_init}
-use Rattle.cmdline.proofs.HeldLaws.{settles}
 
 pub allowed_most : (c : ℕ) → allowed c ≡ true → c ≤ limit
 unfolding allowed
@@ -45,11 +44,12 @@ pub from_most : (s : List ℕ) (c : ℕ) → AllHold (try_from s c).tests → (t
 unfolding try_from
 from_most s c hold = allowed_most c hold.0
 
--- an empty line
-pub new_reply : (c : ℕ) {a : Bool} {g : Gate} {x y : Cmdline} {r : Reply} → a ≡ allowed c → g ≡ asked Open a refusal.InvalidCapacity → x ≡ blank_line 0
-    → y ≡ blank_line c → r ≡ settled_reply g x y → r ≡ made_of (new c)
-unfolding new
-new_reply c ea eg ex ey er = er ∙ rw (ex, ey, eg, ea)
+-- what a making returns, by how its tests end
+pub made_not : (p : Plan) {r : Refusal} → plan_gate p ≡ Err r → Err r ≡ line_of (made_of p)
+made_not p e = ap (λ (g : Check). line_by (answer_of g) (settled g (blank_line 0) (holding (blank_line 0) p.text))) (sym e)
+
+pub made_all : (p : Plan) {l : Cmdline} → plan_gate p ≡ pass → l ≡ holding (blank_line 0) p.text → Ok l ≡ line_of (made_of p)
+made_all p e same = ap Ok same ∙ ap (λ (g : Check). line_by (answer_of g) (settled g (blank_line 0) (holding (blank_line 0) p.text))) (sym e)
 
 -- a line from its text
 module _ (raw : List ℕ) (c at : ℕ) (place : at ≡ split_at raw) (before after rest : List ℕ) (first : before ≡ trim (take at raw))
@@ -60,24 +60,23 @@ module _ (raw : List ℕ) (c at : ℕ) (place : at ≡ split_at raw) (before aft
   init_is : after ≡ init_part raw
   init_is = rw (← place, ← later) second
 
-  pub from_reply : {h : Gate} {m n : ℕ} {d f : List ℕ} {x next : Cmdline} {r : Reply} → h ≡ asked_all Open (size_tests (length before) (length after) c)
-      → Stored (replicate limit 0) 0 before d m → Stored (replicate limit 0) 0 after f n → x ≡ blank_line 0 → next ≡ clamped_line d m f n c
-      → r ≡ settled_reply h x next → r ≡ made_of (try_from raw c)
+  pub from_gate : asked_all pass (size_tests (length before) (length after) c) ≡ plan_gate (try_from raw c)
   unfolding try_from
-  from_reply {h} {m} {n} {d} {f} {x} {next} eh sd sf ex enext er =
-      settles (blank_line 0) (holding (blank_line 0) (parted raw c)) (try_from raw c).tests h next (er ∙ ap (λ (y : Cmdline). settled_reply h y next) ex)
-      (eh ∙ rw (boot_is, init_is)) (λ hold. enext ∙ same hold)
-    where
-      same : AllHold (try_from raw c).tests → clamped_line d m f n c ≡ holding (blank_line 0) (parted raw c)
-      same hold =
-          let top = allowed_most c hold.0 in
-          let size : size_of (length before) (length after) ≤ c = rw (boot_is, init_is) (leb-true (size_of (length (boot_part raw)) (length (init_part raw))) c hold.1.0) in
-          let b = size_boot (length before) (length after) in
-          let i = size_init (length before) (length after) in
-          let room = length-replicate {A = ℕ} limit 0 in
-          let sp = sd.place in
-          let fp = sf.place in
-          let mb : min m limit ≡ length before = omega arith in
-          let nb : min n limit ≡ length after = omega arith in
-          let cb : min c limit ≡ c = omega arith in
-          rw (mb, nb, cb, sd.bytes, sf.bytes, ← boot_is, ← init_is)
+  from_gate = rw (boot_is, init_is)
+
+  pub from_line : {m n : ℕ} {d f : List ℕ} → plan_gate (try_from raw c) ≡ pass → Stored (replicate limit 0) 0 before d m
+      → Stored (replicate limit 0) 0 after f n
+      → record { boot = d; boots = m; init = f; inits = n; capacity = c } ≡ holding (blank_line 0) (try_from raw c).text
+  unfolding try_from
+  from_line {m} {n} {d} {f} e sd sf =
+      let hold = open_all (try_from raw c).tests e in
+      let top = allowed_most c hold.0 in
+      let size : size_of (length before) (length after) ≤ c = rw (boot_is, init_is) (leb-true (size_of (length (boot_part raw)) (length (init_part raw))) c hold.1.0) in
+      let b = size_boot (length before) (length after) in
+      let i = size_init (length before) (length after) in
+      let room = length-replicate {A = ℕ} limit 0 in
+      let sp = sd.place in
+      let fp = sf.place in
+      let mb : m ≡ length before = omega arith in
+      let nb : n ≡ length after = omega arith in
+      rw (mb, nb, sd.bytes, sf.bytes, ← boot_is, ← init_is)

@@ -1,13 +1,12 @@
 -- Nothing inserted earlier is lost, no word drops off the line: over any calls, the boot text that stood there begins the later one, and so
 -- does the init text. `nothing_lost` is the theorem; `str_extends` and its like say it of each insertion.
+use Rattle.answers.specs.Tests.{Check}
+use Rattle.std.specs.Prelude.{Ok, Err, Option}
 use Prim.Native.Nat.{ℕ, ◌≤◌}
 use mathlib.Core.Path.{refl, sym, ap, ◌∙◌}
 use mathlib.Core.List.{List, [], ◌∷◌, ◌++◌, append_assoc, append-nil}
 use native.Mathlib.Omega.{arith}
 use lib.ListN.{length, length-append}
-use Rattle.answers.specs.declared.Gate.{Gate}
-use Rattle.answers.specs.declared.Gate.TheVariants.{Open, Shut}
-use Rattle.cmdline.specs.declared.DeviceId.{DeviceId}
 use Rattle.slugs.specs.Trimming.{trim}
 use Rattle.cmdline.specs.Text.{Text}
 use Rattle.cmdline.specs.Insertion.{Plan, plan_gate, settled, insert, insert_str, insert_init_args, insert_multiple}
@@ -54,7 +53,7 @@ pub multiple_extends : (t : Text) (key values ends : List ℕ) → Extends t (in
 unfolding insert_multiple
 multiple_extends t key values ends = str_extends t _
 
-pub device_extends : (t : Text) (size base irq : ℕ) (id : DeviceId) → Extends t (add_device t size base irq id).text
+pub device_extends : (t : Text) (size base irq : ℕ) (id : Option ℕ) → Extends t (add_device t size base irq id).text
 unfolding add_device
 device_extends t size base irq id = str_extends t _
 
@@ -62,9 +61,9 @@ device_extends t size base irq id = str_extends t _
 settled_extends : (t : Text) (p : Plan) → Extends t p.text → Extends t (settled (plan_gate p) t p.text)
 settled_extends t p e = split (plan_gate p)
   where
-    split : (g : Gate) → Extends t (settled g t p.text)
-    split Open = e
-    split (Shut r) = extends_same t
+    split : (g : Check) → Extends t (settled g t p.text)
+    split (Ok _) = e
+    split (Err r) = extends_same t
 
 -- ---- over any calls
 

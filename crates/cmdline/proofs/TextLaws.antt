@@ -1,5 +1,5 @@
 -- Laws of the counted size, of what an insertion is charged, and of room.
-use Prim.Native.Nat.{ℕ, ◌+◌, ◌-◌, ◌≤◌, ◌<◌, min}
+use Prim.Native.Nat.{ℕ, ◌+◌, ◌-◌, ◌≤◌, ◌<◌}
 use mathlib.Core.Path.{◌≡◌, refl, sym, ap, ◌∙◌}
 use mathlib.Core.Bool.{Bool, true, false}
 use mathlib.Core.List.{List, [], ◌∷◌, ◌++◌}
@@ -10,7 +10,6 @@ use lib.ListN.{length, length-append}
 use borrow.Author.Tests.{le-leb, lt-leb, eqb-true, ne_eqb}
 use Rattle.answers.specs.Pick.{pick}
 use Rattle.answers.proofs.PickLaws.{pick_with}
-use Rattle.cmdline.specs.Limit.{limit}
 use Rattle.cmdline.specs.Text.{size_of, boot_gap, init_gap}
 use Rattle.slugs.specs.Joining.{space_after, joined}
 
@@ -88,14 +87,6 @@ init_asked b i = split (eqb i 0) refl
     split false e = omega arith
 
 -- ---- room
-
--- a length above the limit has no room, whether it counts in full or as the limit
-pub room_clipped : (size n c : ℕ) {m : ℕ} → m ≡ min n limit → 1 ≤ size → c ≤ limit → leb (size + m) c ≡ leb (size + n) c
-room_clipped size n c {m} e low high = split (dec_le n limit)
-  where
-    split : Dec (n ≤ limit) → leb (size + m) c ≡ leb (size + n) c
-    split (yes h) = ap (λ (k : ℕ). leb (size + k) c) (let same : m ≡ n = omega arith in same)
-    split (no h) = lt-leb (size + m) c (omega arith) ∙ sym (lt-leb (size + n) c (omega arith))
 
 -- ---- two lengths within a room, with nothing summed
 

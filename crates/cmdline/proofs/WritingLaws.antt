@@ -1,29 +1,35 @@
 -- Laws of the whole text of a line.
-use Prim.Native.Nat.{ℕ, suc, ◌+◌, ◌-◌, ◌≤◌, ◌<◌, min}
-use mathlib.Core.Path.{◌≡◌, refl, sym, ap, ◌∙◌}
+use Rattle.std.specs.Prelude.{Ok, Err, Result, Option, Some, None, MatchOption, IfSome}
+use Rattle.std.specs.Iterator.{AlwaysYields, YieldsThen, ComparesItemsByEq}
+use Rattle.std.specs.List.{AllZip}
+use Rattle.std.specs.Iterator.Adapters.{chain_first, chain_second, chain_first_done, chain_second_done, chain_steps}
+use Rattle.std.specs.Slice.Iter.{iter_rest}
+use Rattle.std.specs.declared.iter.Chain.{Chain}
+use Rattle.std.proofs.Common.{Iter}
+use Rattle.std.proofs.iter.Yields.{fronts}
+use Rattle.std.proofs.lemmas.Iterator.{YieldsList, YieldsList-from_slice}
+use Rattle.std.proofs.lemmas.Iterator.Consumers.{YieldsList-from_chain}
+use Prim.Native.Nat.{ℕ, ◌+◌, ◌≤◌, min}
+use mathlib.Core.Path.{◌≡◌, refl, sym, ap, ap₂, subst, ◌∙◌}
 use mathlib.Core.Bool.{Bool, true, false, not, ◌&&◌, ◌||◌}
-use mathlib.Core.List.{List, [], ◌∷◌, ◌++◌, append-nil}
+use mathlib.Core.List.{List, [], ◌∷◌, ◌++◌, append-nil, append_assoc}
 use native.Mathlib.Omega.{arith}
 use native.Mathlib.Decide.{dec_le, ℕ_discrete}
 use lib.Dec.{leb, eqb}
-use lib.ListN.{length, take, drop, get_or, length-append, length-take, get_or-append}
-use lib.Seq.{sets, take_all, get_or-append-add}
+use lib.ListN.{length, take, length-append, length-take}
+use lib.Seq.{sets, take_all}
 use borrow.Author.Tests.{leb-true, eq-eqb, ne_eqb}
 use Rattle.answers.specs.Pick.{pick}
-use Rattle.answers.specs.Tests.{Test, asked, asked_all}
+use Rattle.answers.specs.Tests.{Test, asked, asked_all, Check, pass}
 use Rattle.answers.specs.declared.Refusal.{Refusal}
 use Rattle.answers.specs.declared.Refusal.TheVariants as refusal
-use Rattle.answers.specs.declared.Gate.{Gate}
-use Rattle.answers.specs.declared.Gate.TheVariants.{Open, Shut}
 use Rattle.answers.proofs.TestsLaws.{open_all, asked_append, hold_right}
 use Rattle.slugs.specs.Bytes.{has}
 use Rattle.slugs.specs.Stored.{Stored}
-use Rattle.cmdline.specs.declared.Written.{Written}
-use Rattle.cmdline.specs.declared.Written.TheVariants as written
 use Rattle.cmdline.specs.Limit.{limit}
 use Rattle.cmdline.specs.Text.{Text, size_of}
-use Rattle.cmdline.specs.Writing.{bare, whole_line, headed, text_tests, write_gate, written_of, written_bytes, Writes, same_bytes, same_line}
-use Rattle.slugs.proofs.ListLaws.{here, gone}
+use Rattle.cmdline.specs.SameLaws.{same_list}
+use Rattle.cmdline.specs.Writing.{bare, whole_line, separator_before, headed, text_tests, write_gate, written_of, written_bytes, Writes, same_bytes, same_line}
 use Rattle.slugs.proofs.BytesLaws.{has_append}
 use Rattle.slugs.specs.Splitting.{separator}
 
@@ -53,12 +59,18 @@ module _ (b i : List ℕ) where
       split (yes z) = rw (eq-eqb (length i) 0 z) (let w = none_long z in omega arith)
       split (no z) = rw (ne_eqb (length i) 0 z) (let w = some_long z in omega arith)
 
-  pub whole_most : length (whole_line b i) ≤ length b + 4 + length i
-  whole_most = split (ℕ_discrete (length i) 0)
-    where
-      split : Dec (length i ≡ 0) → length (whole_line b i) ≤ length b + 4 + length i
-      split (yes z) = let w = none_long z in omega arith
-      split (no z) = let w = some_long z in omega arith
+-- texts of different sizes, each counted up to a greatest number, are not the same
+pub sizes_differ : (b i b' i' : List ℕ) (most : ℕ) {m n : ℕ} → m ≡ min (size_of (length b) (length i)) most
+    → n ≡ min (size_of (length b') (length i')) most → (m ≡ n → ⊥) → false ≡ same_bytes (whole_line b i) (whole_line b' i')
+sizes_differ b i b' i' most em en differ = split (same_bytes (whole_line b i) (whole_line b' i')) refl
+  where
+    split : (t : Bool) → same_bytes (whole_line b i) (whole_line b' i') ≡ t → false ≡ t
+    split false e = refl
+    split true e =
+        let same = ap length (same_list (whole_line b i) (whole_line b' i') e) in
+        let one = whole_size b i in
+        let other = whole_size b' i' in
+        absurd (differ (omega arith))
 
 -- ---- a zero byte in it
 
@@ -79,116 +91,132 @@ whole_has b i = split (ℕ_discrete (length i) 0)
     split (no z) = rw (whole_some b i z, has_append)
 
 -- two tests with one refusal
-asked_both : (g : Gate) (a b : Bool) (r : Refusal) → asked (asked g (not a) r) (not b) r ≡ asked g (not (a || b)) r
+asked_both : (g : Check) (a b : Bool) (r : Refusal) → asked (asked g (not a) r) (not b) r ≡ asked g (not (a || b)) r
 unfolding asked pick
-asked_both (Shut s) a b r = refl
-asked_both Open true true r = refl
-asked_both Open true false r = refl
-asked_both Open false true r = refl
-asked_both Open false false r = refl
+asked_both (Err s) a b r = refl
+asked_both (Ok _) true true r = refl
+asked_both (Ok _) true false r = refl
+asked_both (Ok _) false true r = refl
+asked_both (Ok _) false false r = refl
 
--- the text's tests, with the two parts asked one after the other
-pub text_asked : (b i : List ℕ) {t : Bool} {g h k : Gate} {x y : Bool} → t ≡ headed (length b) (length i) → g ≡ asked Open t refusal.NoBootArgsInserted
-    → x ≡ has 0 b → h ≡ asked g (not x) refusal.NullTerminator → y ≡ has 0 i → k ≡ asked h (not y) refusal.NullTerminator
-    → k ≡ asked_all Open (text_tests b i)
+-- the tests of the text, with the two parts tested one after the other
+pub text_row : (b i : List ℕ)
+    → asked (asked (asked pass (headed (length b) (length i)) refusal.NoBootArgsInserted) (not (has 0 b)) refusal.NullTerminator) (not (has 0 i)) refusal.NullTerminator
+    ≡ asked_all pass (text_tests b i)
 unfolding text_tests
-text_asked b i {t} {g} {h} {k} {x} {y} et eg ex eh ey ek =
-    ek ∙ rw (eh, ey, ex, eg, et)
-    (asked_both (asked Open (headed (length b) (length i)) refusal.NoBootArgsInserted) (has 0 b) (has 0 i) refusal.NullTerminator ∙ rw (← whole_has b i))
+text_row b i =
+    asked_both (asked pass (headed (length b) (length i)) refusal.NoBootArgsInserted) (has 0 b) (has 0 i) refusal.NullTerminator ∙ rw (← whole_has b i)
 
--- ---- the byte at a place of it
+-- ---- the whole text in its parts
 
-module _ (b i : List ℕ) where
-  -- a place past the boot text says that there is init text
-  past_some : (k : ℕ) → k < length (whole_line b i) → length b ≤ k → length i ≡ 0 → ⊥
-  past_some k h p z = let w = none_long b i z in omega arith
+pub whole_parts : (b i : List ℕ) → (b ++ separator_before i) ++ i ≡ whole_line b i
+unfolding whole_line separator_before pick
+whole_parts b i = split (ℕ_discrete (length i) 0)
+  where
+    split : Dec (length i ≡ 0) → (b ++ pick (eqb (length i) 0) [] separator) ++ i ≡ b ++ pick (eqb (length i) 0) [] (separator ++ i)
+    split (yes z) = rw (eq-eqb (length i) 0 z, empty_list i z) (append-nil (b ++ []))
+    split (no z) = rw (ne_eqb (length i) 0 z) (append_assoc b separator i)
 
-  pub at_boot : (k : ℕ) → k < length b → get_or b k 0 ≡ get_or (whole_line b i) k 0
-  unfolding whole_line
-  at_boot k h = sym (get_or-append b (pick (eqb (length i) 0) [] (separator ++ i)) 0 k h)
+-- ---- two texts, item by item
 
-  past : (k : ℕ) → k < length (whole_line b i) → length b ≤ k → get_or (whole_line b i) k 0 ≡ get_or (separator ++ i) (k - length b) 0
-  past k h p =
-      let q : k ≡ length b + (k - length b) = omega arith in
-      rw (whole_some b i (past_some k h p)) (ap (λ (m : ℕ). get_or (b ++ (separator ++ i)) m 0) q ∙ get_or-append-add b (separator ++ i) (k - length b) 0)
+module _ {S T A : Type 0} (steps : S → Option A → S → Type 0) (others : T → Option A → T → Type 0) (v : A → ℕ) (eq : A → A → Bool)
+    (agree : (x y : A) → eq x y ≡ eqb (v x) (v y)) (r : Bool) where
+  abbrev Last : Option A → Option A → Type 0
+  Last o p = MatchOption o (MatchOption p (r ≡ true) (λ _. r ≡ false)) (λ x. (r ≡ false) × IfSome p (λ y. eq x y ≡ false))
 
-  pub at_separator : (k : ℕ) → k < length (whole_line b i) → length b ≤ k → k - length b < 4 → get_or separator (k - length b) 0 ≡ get_or (whole_line b i) k 0
-  at_separator k h p l = sym (past k h p ∙ get_or-append separator i 0 (k - length b) l)
-
-  pub at_init : (k : ℕ) → k < length (whole_line b i) → length b ≤ k → 4 ≤ k - length b → get_or i (k - length b - 4) 0 ≡ get_or (whole_line b i) k 0
-  at_init k h p l =
-      let q : k - length b ≡ 4 + (k - length b - 4) = omega arith in
-      sym (past k h p ∙ ap (λ (m : ℕ). get_or (separator ++ i) m 0) q ∙ get_or-append-add separator i (k - length b - 4) 0)
-
--- ---- two texts, from a place on
-
-module _ (s t : List ℕ) (i : ℕ) where
-  pub same_stop : i < length s → i < length t → (get_or s i 0 ≡ get_or t i 0 → ⊥) → same_bytes (drop i s) (drop i t) ≡ false
+  at_last : (o p : Option A) (xs ys : List ℕ) (s u : S) (t w : T) → AlwaysYields steps v s xs → AlwaysYields others v t ys → steps s o u → others t p w
+      → Last o p → r ≡ same_bytes xs ys
   unfolding same_bytes
-  same_stop h k e = rw (here s i h, here t i k, ne_eqb (get_or s i 0) (get_or t i 0) e)
+  at_last None None (x ∷ xs) ys s u t w e f a b h = absurd (e.0 u a)
+  at_last None (Some y) (x ∷ xs) ys s u t w e f a b h = absurd (e.0 u a)
+  at_last (Some x) None [] ys s u t w e f a b h = absurd (e x u a)
+  at_last (Some x) (Some y) [] ys s u t w e f a b h = absurd (e x u a)
+  at_last None None [] (y ∷ ys) s u t w e f a b h = absurd (f.0 w b)
+  at_last None (Some y) [] [] s u t w e f a b h = absurd (f y w b)
+  at_last (Some x) None (z ∷ xs) (y ∷ ys) s u t w e f a b h = absurd (f.0 w b)
+  at_last (Some x) (Some y) (z ∷ xs) [] s u t w e f a b h = absurd (f y w b)
+  at_last None None [] [] s u t w e f a b h = h
+  at_last None (Some y) [] (z ∷ ys) s u t w e f a b h = h
+  at_last (Some x) None (z ∷ xs) [] s u t w e f a b h = h.0
+  at_last (Some x) (Some y) (x' ∷ xs) (y' ∷ ys) s u t w e f a b h =
+      let differ : false ≡ eqb x' y' = sym h.1 ∙ agree x y ∙ ap₂ eqb (e.1 x u a).0 (f.1 y w b).0 in
+      h.0 ∙ ap (λ (k : Bool). k && same_bytes xs ys) differ
 
-  pub same_on : i < length s → i < length t → get_or s i 0 ≡ get_or t i 0 → same_bytes (drop i s) (drop i t) ≡ same_bytes (drop (i + 1) s) (drop (i + 1) t)
+  along : (cs bs : List A) (o p : Option A) (xs ys : List ℕ) (s u : S) (t w : T) → AlwaysYields steps v s xs → AlwaysYields others v t ys
+      → YieldsThen steps s cs o u → YieldsThen others t bs p w → AllZip (λ x y. eq x y ≡ true) cs bs → Last o p → r ≡ same_bytes xs ys
   unfolding same_bytes
-  same_on h k e = rw (here s i h, here t i k, eq-eqb (get_or s i 0) (get_or t i 0) e)
+  along [] [] o p xs ys s u t w e f a b z h = at_last o p xs ys s u t w e f (subst (λ j. steps j o u) (sym a.1) a.2) (subst (λ j. others j p w) (sym b.1) b.2) h
+  along [] (y ∷ bs) o p xs ys s u t w e f a b z h = absurd z
+  along (x ∷ cs) [] o p xs ys s u t w e f a b z h = absurd z
+  along (x ∷ cs) (y ∷ bs) o p [] ys s u t w e f a b z h = absurd (e x a.1.0 a.1.1)
+  along (x ∷ cs) (y ∷ bs) o p (x' ∷ xs) [] s u t w e f a b z h = absurd (f y b.1.0 b.1.1)
+  along (x ∷ cs) (y ∷ bs) o p (x' ∷ xs) (y' ∷ ys) s u t w e f a b z h =
+      let m = e.1 x a.1.0 a.1.1 in
+      let n = f.1 y b.1.0 b.1.1 in
+      let tie : true ≡ eqb x' y' = sym z.0 ∙ agree x y ∙ ap₂ eqb m.0 n.0 in
+      along cs bs o p xs ys a.1.0 u b.1.0 w m.1 n.1 (a.0, a.1.2, a.2) (b.0, b.1.2, b.2) z.1 h ∙ ap (λ (k : Bool). k && same_bytes xs ys) tie
 
-  pub same_end : length s ≤ i → length t ≤ i → same_bytes (drop i s) (drop i t) ≡ true
-  unfolding same_bytes
-  same_end h k = rw (gone s i h, gone t i k)
+-- `eq` of two iterators over bytes compares their lists
+pub same_from_eq : {S U T A : Type 0} {steps : S → Option A → S → Type 0} {others : T → Option A → T → Type 0} {v : A → ℕ} {s : S} {eq : A → A → Bool}
+    {xs ys : List ℕ} (becomes : U → T → Type 0) (other : U) (r : Bool) → ComparesItemsByEq steps becomes others s other eq r → YieldsList steps v s xs
+    → ((it : T) → becomes other it → YieldsList others v it ys) → ((x y : A) → eq x y ≡ eqb (v x) (v y)) → r ≡ same_bytes xs ys
+same_from_eq {steps = steps} {others = others} {v = v} {s = s} {eq = eq} {xs = xs} {ys = ys} becomes other r d e f agree =
+    along steps others v eq agree r d.1 d.2 d.3 d.4 xs ys s d.5 d.0 d.6 e.runs (f d.0 d.7).runs d.8 d.9 d.10 d.11
 
-and_false : (a : Bool) → a && false ≡ false
-and_false true = refl
-and_false false = refl
-
-pub same_lengths : (s t : List ℕ) → (length s ≡ length t → ⊥) → same_bytes s t ≡ false
-unfolding same_bytes
-same_lengths [] [] z = absurd (z refl)
-same_lengths [] (y ∷ ys) z = refl
-same_lengths (x ∷ xs) [] z = refl
-same_lengths (x ∷ xs) (y ∷ ys) z = rw (same_lengths xs ys (λ e. z (ap suc e))) (and_false (eqb x y))
+-- a chain of three slices gives the three lists, one after the other
+pub chained : {s : Chain (Chain (Iter ℕ) (Iter ℕ)) (Iter ℕ)} {p : Chain (Iter ℕ) (Iter ℕ)} (x y z : List ℕ) → chain_first s ≡ p
+    → iter_rest (chain_first p) ≡ x → iter_rest (chain_second p) ≡ y → chain_first_done p ≡ false → chain_second_done p ≡ false
+    → iter_rest (chain_second s) ≡ z → chain_first_done s ≡ false → chain_second_done s ≡ false
+    → YieldsList (chain_steps (chain_steps fronts fronts) fronts) (λ v. v.now) s ((x ++ y) ++ z)
+chained {s} {p} x y z e a b ad bd d sa sb =
+    YieldsList-from_chain {s = s}
+    (subst (λ q. YieldsList (chain_steps fronts fronts) (λ v. v.now) q (x ++ y)) (sym e)
+    (YieldsList-from_chain {s = p} (YieldsList-from_slice {s = chain_first p} x a) (YieldsList-from_slice {s = chain_second p} y b) ad bd))
+    (YieldsList-from_slice {s = chain_second s} z d) sa sb
 
 -- ---- a line that is written
 
 -- a text that is written whole, by how its tests end
-module _ (boot init out : List ℕ) {g h : Gate} {room : Bool} (text : g ≡ asked_all Open (text_tests boot init))
+module _ (boot init out : List ℕ) {g h : Check} {room : Bool} (text : g ≡ asked_all pass (text_tests boot init))
     (fits : room ≡ leb (size_of (length boot) (length init)) (length out)) (last : h ≡ asked g room refusal.NoRoom) where
   abbrev room_test : Test
   room_test = (leb (length (whole_line boot init) + 1) (length out), refusal.NoRoom)
 
   write_gate_lem : h ≡ write_gate (bare boot init) (length out)
-  write_gate_lem = last ∙ rw (text, fits, ← whole_size boot init) (sym (asked_append Open (text_tests boot init) (room_test ∷ [])))
+  write_gate_lem = last ∙ rw (text, fits, ← whole_size boot init) (sym (asked_append pass (text_tests boot init) (room_test ∷ [])))
 
-  pub writes_refused : (r : Refusal) → h ≡ Shut r → Writes (bare boot init) out (written.Refused r) out
+  pub writes_refused : (r : Refusal) → h ≡ Err r → Writes (bare boot init) out (Err r) out
   writes_refused r e =
-      let gate : Shut r ≡ write_gate (bare boot init) (length out) = sym e ∙ write_gate_lem in
+      let gate : Err r ≡ write_gate (bare boot init) (length out) = sym e ∙ write_gate_lem in
       record {
-        answer = ap (λ (x : Gate). written_of x (bare boot init)) gate;
-        bytes = ap (λ (x : Gate). sets out 0 (written_bytes x (bare boot init))) gate;
+        answer = ap (λ (x : Check). written_of x (bare boot init)) gate;
+        bytes = ap (λ (x : Check). sets out 0 (written_bytes x (bare boot init))) gate;
       }
 
-  pub writes_whole : {left : List ℕ} {k : ℕ} → h ≡ Open → Stored out 0 (whole_line boot init ++ (0 ∷ [])) left k
-      → Writes (bare boot init) out (written.Bytes k) left
+  pub writes_whole : {left : List ℕ} {k : ℕ} → h ≡ pass → Stored out 0 (whole_line boot init ++ (0 ∷ [])) left k
+      → Writes (bare boot init) out (Ok k) left
   writes_whole {left} {k} e w =
-      let gate : Open ≡ write_gate (bare boot init) (length out) = sym e ∙ write_gate_lem in
+      let gate : pass ≡ write_gate (bare boot init) (length out) = sym e ∙ write_gate_lem in
       let hold = open_all (text_tests boot init ++ (room_test ∷ [])) (sym gate) in
       let enough = leb-true (length (whole_line boot init) + 1) (length out) (hold_right (text_tests boot init) (room_test ∷ []) hold).0 in
       let long = length-append (whole_line boot init) (0 ∷ []) in
       let place = w.place in
       let count : k ≡ length (whole_line boot init) + 1 = omega arith in
       record {
-        answer = ap written.Bytes count ∙ ap (λ (x : Gate). written_of x (bare boot init)) gate;
-        bytes = w.bytes ∙ ap (λ (x : Gate). sets out 0 (written_bytes x (bare boot init))) gate;
+        answer = ap Ok count ∙ ap (λ (x : Check). written_of x (bare boot init)) gate;
+        bytes = w.bytes ∙ ap (λ (x : Check). sets out 0 (written_bytes x (bare boot init))) gate;
       }
 
 -- the capacity of a line has no part in how it is written
-written_any : (t : Text) (g : Gate) → written_of g (bare t.boot t.init) ≡ written_of g t
-written_any t Open = refl
-written_any t (Shut r) = refl
+written_any : (t : Text) (g : Check) → written_of g (bare t.boot t.init) ≡ written_of g t
+written_any t (Ok _) = refl
+written_any t (Err r) = refl
 
-bytes_any : (t : Text) (g : Gate) → written_bytes g (bare t.boot t.init) ≡ written_bytes g t
-bytes_any t Open = refl
-bytes_any t (Shut r) = refl
+bytes_any : (t : Text) (g : Check) → written_bytes g (bare t.boot t.init) ≡ written_bytes g t
+bytes_any t (Ok _) = refl
+bytes_any t (Err r) = refl
 
-pub writes_any : (t : Text) {out left : List ℕ} {r : Written} → Writes (bare t.boot t.init) out r left → Writes t out r left
+pub writes_any : (t : Text) {out left : List ℕ} {r : Result ℕ Refusal} → Writes (bare t.boot t.init) out r left → Writes t out r left
 writes_any t {out} w =
     record {
       answer = w.answer ∙ written_any t (write_gate t (length out));
@@ -204,15 +232,20 @@ clipped_take s {n} e = split (dec_le limit (length s))
     split (yes h) = ap (λ (k : ℕ). take k s) (let same : n ≡ limit = omega arith in same)
     split (no h) = take_all n s (omega arith) ∙ sym (take_all limit s (omega arith))
 
-pub clipped_long : (s : List ℕ) {t : List ℕ} → t ≡ take limit s → length t ≤ limit
-clipped_long s e = let long = ap length e ∙ length-take limit s in omega arith
-
 -- a text that a line can hold is not clipped
 pub clipped_whole : (n : ℕ) (s : List ℕ) → take limit (take (min n limit) s) ≡ take (min n limit) s
 clipped_whole n s = let long = length-take (min n limit) s in take_all limit (take (min n limit) s) (omega arith)
 
-pub same_clipped : (p q u v : List ℕ) (n i m j : ℕ) {n' i' m' j' : ℕ} {r : Bool} → n' ≡ min n limit → i' ≡ min i limit → m' ≡ min m limit → j' ≡ min j limit
-    → r ≡ same_line (bare (take limit (take n' p)) (take limit (take i' q))) (bare (take limit (take m' u)) (take limit (take j' v)))
+pub same_clipped : (p q u v : List ℕ) (n i m j : ℕ) {p' q' u' v' : List ℕ} {r : Bool} → p' ≡ take (min n limit) p → q' ≡ take (min i limit) q
+    → u' ≡ take (min m limit) u → v' ≡ take (min j limit) v → r ≡ same_line (bare (take limit p') (take limit q')) (bare (take limit u') (take limit v'))
     → r ≡ same_line (bare (take (min n limit) p) (take (min i limit) q)) (bare (take (min m limit) u) (take (min j limit) v))
-same_clipped p q u v n i m j en ei em ej er =
-    er ∙ rw (en, ei, em, ej, clipped_whole n p, clipped_whole i q, clipped_whole m u, clipped_whole j v)
+same_clipped p q u v n i m j {p'} {q'} {u'} {v'} ep eq eu ev er =
+    let a : take limit p' ≡ take (min n limit) p = ap (take limit) ep ∙ clipped_whole n p in
+    let b : take limit q' ≡ take (min i limit) q = ap (take limit) eq ∙ clipped_whole i q in
+    let d : take limit u' ≡ take (min m limit) u = ap (take limit) eu ∙ clipped_whole m u in
+    let f : take limit v' ≡ take (min j limit) v = ap (take limit) ev ∙ clipped_whole j v in
+    er
+    ∙ ap (λ (s : List ℕ). same_line (bare s (take limit q')) (bare (take limit u') (take limit v'))) a
+    ∙ ap (λ (s : List ℕ). same_line (bare (take (min n limit) p) s) (bare (take limit u') (take limit v'))) b
+    ∙ ap (λ (s : List ℕ). same_line (bare (take (min n limit) p) (take (min i limit) q)) (bare s (take limit v'))) d
+    ∙ ap (λ (s : List ℕ). same_line (bare (take (min n limit) p) (take (min i limit) q)) (bare (take (min m limit) u) s)) f

@@ -1,4 +1,5 @@
 -- Laws of zeros past the texts: a longer text leaves them.
+use Rattle.std.specs.Prelude.{Ok, Err}
 use Prim.Native.Nat.{ℕ, suc, ◌+◌, ◌≤◌}
 use mathlib.Core.Path.{◌≡◌, refl, ◌∙◌}
 use mathlib.Core.List.{List, [], ◌∷◌}
@@ -6,9 +7,7 @@ use native.Mathlib.Omega.{arith}
 use native.Mathlib.Decide.{dec_le}
 use lib.ListN.{length, set, get_or, replicate, get_or-replicate, length-replicate, get_or-eq_default}
 use lib.Seq.{sets, get_or-set_other}
-use Rattle.answers.specs.Tests.{AllHold}
-use Rattle.answers.specs.declared.Gate.{Gate}
-use Rattle.answers.specs.declared.Gate.TheVariants.{Open, Shut}
+use Rattle.answers.specs.Tests.{AllHold, Check}
 use Rattle.answers.proofs.TestsLaws.{open_all}
 use Rattle.cmdline.specs.Fitting.{Fits, Short}
 use Rattle.cmdline.specs.declared.Cmdline.{Cmdline}
@@ -59,18 +58,18 @@ pub reply_zero : (l : Cmdline) (p : Plan) → (AllHold p.tests → Fits p.text) 
     → ZeroPast (reply_of l p).line
 reply_zero l p told e b z = split (plan_gate p) refl
   where
-    split : (g : Gate) → plan_gate p ≡ g → ZeroPast (settled g l (holding l p.text))
-    split Open o =
+    split : (g : Check) → plan_gate p ≡ g → ZeroPast (settled g l (holding l p.text))
+    split (Ok _) o =
         let cap = e.capacity in
         held_zero l p.text b z e (fits_short p.text (told (open_all p.tests o)) (omega arith))
-    split (Shut r) o = z
+    split (Err r) o = z
 
 pub reply_buffers : (l : Cmdline) (p : Plan) → Buffers l → Buffers (reply_of l p).line
 reply_buffers l p b = split (plan_gate p)
   where
-    split : (g : Gate) → Buffers (settled g l (holding l p.text))
-    split Open = buffers_held l p.text b
-    split (Shut r) = b
+    split : (g : Check) → Buffers (settled g l (holding l p.text))
+    split (Ok _) = buffers_held l p.text b
+    split (Err r) = b
 
 pub made_buffers : (p : Plan) → Buffers (made_of p).line
 made_buffers p = reply_buffers (blank_line 0) p (blank_buffers 0)
@@ -78,8 +77,8 @@ made_buffers p = reply_buffers (blank_line 0) p (blank_buffers 0)
 pub made_zero : (p : Plan) → (AllHold p.tests → Fits p.text) → (AllHold p.tests → p.text.capacity ≤ limit) → ZeroPast (made_of p).line
 made_zero p told cap = split (plan_gate p) refl
   where
-    split : (g : Gate) → plan_gate p ≡ g → ZeroPast (settled g (blank_line 0) (holding (blank_line 0) p.text))
-    split Open o =
+    split : (g : Check) → plan_gate p ≡ g → ZeroPast (settled g (blank_line 0) (holding (blank_line 0) p.text))
+    split (Ok _) o =
         let hold = open_all p.tests o in
         let s = fits_short p.text (told hold) (cap hold) in
         let sb = s.boot in
@@ -88,4 +87,4 @@ made_zero p told cap = split (plan_gate p) refl
           boot = λ i h. past_stored p.text.boot (replicate limit 0) 0 i (omega arith) ∙ zeros limit i;
           init = λ i h. past_stored p.text.init (replicate limit 0) 0 i (omega arith) ∙ zeros limit i;
         }
-    split (Shut r) o = blank_zero 0
+    split (Err r) o = blank_zero 0

@@ -1,14 +1,11 @@
 -- Calls on a new line, its making counted among them, and what each of them says.
-use Rattle.std.specs.Prelude.{ℕ, Bool, List, [], ◌∷◌}
+use Rattle.answers.specs.Tests.{Check}
+use Rattle.std.specs.Prelude.{ℕ, Bool, List, [], ◌∷◌, Err, Option, Result}
 use Rattle.answers.specs.declared.Refusal.{Refusal}
 use Rattle.answers.specs.declared.Refusal.TheVariants as refusal
-use Rattle.cmdline.specs.declared.Answer.{Answer}
-use Rattle.cmdline.specs.declared.Answer.TheVariants as answer
-use Rattle.cmdline.specs.declared.Written.{Written}
-use Rattle.cmdline.specs.declared.Written.TheVariants as written
-use Rattle.cmdline.specs.declared.DeviceId.{DeviceId}
 use Rattle.cmdline.specs.Text.{Text, empty}
-use Rattle.cmdline.specs.Insertion.{Plan, plan_gate, answer_of, settled, insert, insert_str, insert_init_args, insert_multiple}
+use Rattle.cmdline.specs.Insertion.{Plan, plan_gate, answer_of, settled}
+use Rattle.cmdline.specs.Insertion.{insert, insert_str, insert_init_args, insert_multiple}
 use Rattle.cmdline.specs.Device.{add_device}
 use Rattle.cmdline.specs.Making.{new, try_from}
 use Rattle.cmdline.specs.Writing.{write_gate, written_of, written_bytes, same_line}
@@ -18,22 +15,23 @@ pub data Making : Type 0 where
   makes_new : Making
   makes_from : List ℕ → Making
 
--- what is called on it: each function with what it is given beside the line; `writes` into room for so many bytes, `compares` with the
--- texts of another line; `tells` is whatever else is worked out from the two texts alone, as loading a line into guest memory is
+-- what is called on it: each function with its arguments beside the line; `writes` into room for so many bytes,
+-- `compares` with the texts of another line; `tells` is whatever else is computed from the two texts only, as loading a
+-- line into guest memory is
 pub data Call : Type 0 where
   inserts : List ℕ → List ℕ → Call
   inserts_multiple : List ℕ → List ℕ → List ℕ → Call
   inserts_str : List ℕ → Call
   inserts_init_args : List ℕ → Call
-  adds_device : ℕ → ℕ → ℕ → DeviceId → Call
+  adds_device : ℕ → ℕ → ℕ → Option ℕ → Call
   writes : ℕ → Call
   compares : Text → Call
   tells : (List ℕ → List ℕ → List ℕ) → Call
 
 -- what a call says: an answer; what was written; whether two lines are equal; what was worked out from the texts
 pub data Said : Type 0 where
-  answered : Answer → Said
-  wrote : Written → List ℕ → Said
+  answered : Check → Said
+  wrote : Result ℕ Refusal → List ℕ → Said
   compared : Bool → Said
   told : List ℕ → Said
 
@@ -55,7 +53,8 @@ calling (inserts_multiple key values ends) t = planned (insert_multiple t key va
 calling (inserts_str slug) t = planned (insert_str t slug) t
 calling (inserts_init_args slug) t = planned (insert_init_args t slug) t
 calling (adds_device size base irq id) t = planned (add_device t size base irq id) t
-calling (writes room) t = record { said = wrote (written_of (write_gate t room) t) (written_bytes (write_gate t room) t); text = t }
+calling (writes room) t =
+    record { said = wrote (written_of (write_gate t room) t) (written_bytes (write_gate t room) t); text = t }
 calling (compares other) t = record { said = compared (same_line t other); text = t }
 calling (tells f) t = record { said = told (f t.boot t.init); text = t }
 
@@ -84,8 +83,8 @@ pub data ForRoom : Refusal → Type 0 where
   text_long : ForRoom refusal.InvalidCapacity
 
 pub data RefusedForRoom : Said → Type 0 where
-  call_refused : {r : Refusal} → ForRoom r → RefusedForRoom (answered (answer.Refused r))
-  write_refused : {r : Refusal} {bytes : List ℕ} → ForRoom r → RefusedForRoom (wrote (written.Refused r) bytes)
+  call_refused : {r : Refusal} → ForRoom r → RefusedForRoom (answered (Err r))
+  write_refused : {r : Refusal} {bytes : List ℕ} → ForRoom r → RefusedForRoom (wrote (Err r) bytes)
 
 -- none of them was refused for room
 pub data NoneForRoom : List Said → Type 0 where

@@ -1,9 +1,7 @@
 -- The text of a device: virtio_mmio.device=SIZE@0xHEX:IRQ, and :ID if given.
-use Rattle.std.specs.Prelude.{ℕ, ◌/◌, ◌%◌, not, List, [], ◌∷◌, ◌++◌, eqb}
+use Rattle.std.specs.Prelude.{ℕ, ◌/◌, ◌%◌, not, List, [], ◌∷◌, ◌++◌, eqb, Some, None, Option}
 use Rattle.answers.specs.Pick.{pick}
 use Rattle.answers.specs.declared.Refusal.TheVariants as refusal
-use Rattle.cmdline.specs.declared.DeviceId.{DeviceId}
-use Rattle.cmdline.specs.declared.DeviceId.TheVariants.{Nothing, Number}
 use Rattle.slugs.specs.Bytes.{colon}
 use Rattle.cmdline.specs.Digits.{decimal, hexadecimal}
 use Rattle.cmdline.specs.Text.{Text}
@@ -17,13 +15,15 @@ size_text n =
     (pick (eqb (n % 0x400) 0) (decimal (n / 0x400) ++ (75 ∷ [])) (decimal n)))
 
 -- :ID, if given
-unfoldable pub id_text : DeviceId → List ℕ
-id_text Nothing = []
-id_text (Number n) = colon ∷ decimal n
+unfoldable pub id_text : Option ℕ → List ℕ
+id_text None = []
+id_text (Some n) = colon ∷ decimal n
 
 -- virtio_mmio.device=
 abbrev pub prefix : List ℕ
-prefix = 118 ∷ 105 ∷ 114 ∷ 116 ∷ 105 ∷ 111 ∷ 95 ∷ 109 ∷ 109 ∷ 105 ∷ 111 ∷ 46 ∷ 100 ∷ 101 ∷ 118 ∷ 105 ∷ 99 ∷ 101 ∷ 61 ∷ []
+prefix =
+    118 ∷ 105 ∷ 114 ∷ 116 ∷ 105 ∷ 111 ∷ 95 ∷ 109 ∷ 109 ∷ 105 ∷ 111
+    ∷ 46 ∷ 100 ∷ 101 ∷ 118 ∷ 105 ∷ 99 ∷ 101 ∷ 61 ∷ []
 
 -- @0x
 abbrev pub at_hex : List ℕ
@@ -33,9 +33,10 @@ at_hex = 64 ∷ 48 ∷ 120 ∷ []
 unfoldable pub front_text : ℕ → ℕ → ℕ → List ℕ
 front_text size base irq = prefix ++ (size_text size ++ (at_hex ++ (hexadecimal base ++ ((colon ∷ []) ++ decimal irq))))
 
-abbrev pub device_text : ℕ → ℕ → ℕ → DeviceId → List ℕ
+abbrev pub device_text : ℕ → ℕ → ℕ → Option ℕ → List ℕ
 device_text size base irq id = front_text size base irq ++ id_text id
 
 -- a size that is not 0, then the slug of the text
-unfoldable pub add_device : Text → ℕ → ℕ → ℕ → DeviceId → Plan
-add_device t size base irq id = after ((not (eqb size 0), refusal.MmioSize) ∷ []) (insert_str t (device_text size base irq id))
+unfoldable pub add_device : Text → ℕ → ℕ → ℕ → Option ℕ → Plan
+add_device t size base irq id =
+    after ((not (eqb size 0), refusal.MmioSize) ∷ []) (insert_str t (device_text size base irq id))

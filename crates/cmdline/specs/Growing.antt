@@ -15,11 +15,11 @@ pub record Extends (t u : Text) : Type 0 where
   pub init : Begins t.init u.init
   pub capacity : u.capacity ≡ t.capacity
 
--- an inserted key and value: they stand after the boot text, and nothing else has changed
+-- an inserted key and value: they are after the boot text, and nothing else has changed
 pub record Inserted (t u : Text) (key value : List ℕ) : Type 0 where
-  -- the pair stands after what stood there, with a space between if there was text
+  -- the pair is after what was there, with a space between if there was text
   pub boot : u.boot ≡ joined t.boot (pair key value)
   pub init : u.init ≡ t.init
   pub capacity : u.capacity ≡ t.capacity
-  -- and is counted as it stands
+  -- and is counted as it is there
   pub size : counted u ≡ counted t + boot_gap (length t.boot) + length (pair key value)

@@ -1,10 +1,9 @@
 -- The struct that holds a line: the texts that it holds, and the struct that holds given texts.
-use Rattle.std.specs.Prelude.{ℕ, min, List, length, take, replicate}
+use Rattle.answers.specs.Tests.{Check}
+use Rattle.answers.specs.declared.Refusal.{Refusal}
+use Rattle.std.specs.Prelude.{ℕ, min, ◌≡◌, List, length, take, replicate, Result, Ok, Err}
 use Rattle.std.proofs.lemmas.List.Edits.{sets}
-use Rattle.answers.specs.declared.Gate.{Gate}
 use Rattle.cmdline.specs.declared.Cmdline.{Cmdline}
-use Rattle.cmdline.specs.declared.Reply.{Reply}
-use Rattle.cmdline.specs.declared.Written.{Written}
 use Rattle.cmdline.specs.Limit.{limit}
 use Rattle.cmdline.specs.Text.{Text}
 use Rattle.cmdline.specs.Insertion.{Plan, plan_gate, answer_of, settled}
@@ -39,11 +38,16 @@ clamped_line boot boots init inits capacity =
 abbrev pub blank_line : ℕ → Cmdline
 blank_line c = record { boot = replicate limit 0; boots = 0; init = replicate limit 0; inits = 0; capacity = c }
 
--- what a call says, and the line after it or, where it is refused, the line before it
-abbrev pub settled_reply : Gate → Cmdline → Cmdline → Reply
+-- what a call says, and the line after it
+pub record Reply : Type 0 where
+  pub answer : Check
+  pub line : Cmdline
+
+-- the line after the call or, where it is refused, the line before it
+abbrev pub settled_reply : Check → Cmdline → Cmdline → Reply
 settled_reply g before after = record { answer = answer_of g; line = settled g before after }
 
--- a call on a line: where it is refused the line comes back unchanged, both parts, buffers included
+-- a call on a line: where it is refused the line stays unchanged, both parts, buffers included
 abbrev pub reply_of : Cmdline → Plan → Reply
 reply_of l p = settled_reply (plan_gate p) l (holding l p.text)
 
@@ -51,6 +55,23 @@ reply_of l p = settled_reply (plan_gate p) l (holding l p.text)
 abbrev pub made_of : Plan → Reply
 made_of p = settled_reply (plan_gate p) (blank_line 0) (holding (blank_line 0) p.text)
 
+-- a function that changes a line says what a call says, and leaves the line after it
+abbrev pub Replies : Reply → Check → Cmdline → Type 0
+Replies r answer line = (answer ≡ r.answer) × (line ≡ r.line)
+
+-- a function that makes a line returns the line of a making that is accepted, and else its refusal
+abbrev pub line_by : Check → Cmdline → Result Cmdline Refusal
+line_by (Ok _) line = Ok line
+line_by (Err refusal) line = Err refusal
+
+abbrev pub line_of : Reply → Result Cmdline Refusal
+line_of r = line_by r.answer r.line
+
+-- what such a function says
+abbrev pub said_of : {A : Type 0} → Result A Refusal → Check
+said_of (Ok _) = Ok tt
+said_of (Err refusal) = Err refusal
+
 -- writing a line
-abbrev pub WrittenAs : Cmdline → List ℕ → Written → List ℕ → Type 0
+abbrev pub WrittenAs : Cmdline → List ℕ → Result ℕ Refusal → List ℕ → Type 0
 WrittenAs l out r left = Writes (text_of l) out r left

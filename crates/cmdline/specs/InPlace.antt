@@ -1,29 +1,23 @@
--- Insertion in place, by the lengths of the texts: what it asks, what is put after the text, and what it leaves of the
+-- Insertion in place, by the lengths of the texts: its tests, what is put after the text, and what it leaves of the
 -- caller's buffer.
-use Rattle.std.specs.Prelude.{ℕ, ◌+◌, min, ◌≡◌, not, List, [], ◌∷◌, ◌++◌, leb, eqb, length}
+use Rattle.answers.specs.declared.Refusal.{Refusal}
+use Rattle.std.specs.Prelude.{ℕ, ◌+◌, min, ◌≡◌, not, List, [], ◌∷◌, ◌++◌, leb, eqb, length, Ok, Err, Option, Result}
 use Rattle.std.proofs.lemmas.List.Edits.{sets}
-use Rattle.answers.specs.Tests.{Test, asked, asked_all}
+use Rattle.answers.specs.Tests.{Test, asked, asked_all, Check, pass}
 use Rattle.answers.specs.declared.Refusal.TheVariants as refusal
-use Rattle.answers.specs.declared.Gate.{Gate}
-use Rattle.answers.specs.declared.Gate.TheVariants.{Open, Shut}
 use Rattle.slugs.specs.Bytes.{equals, printable, all_bytes}
 use Rattle.slugs.specs.Trimming.{trim}
 use Rattle.slugs.specs.Keys.{key_tests}
 use Rattle.slugs.specs.Values.{value_tests, pair}
 use Rattle.slugs.specs.Joining.{space_after}
 use Rattle.slugs.specs.Lists.{list_pre, listed}
-use Rattle.cmdline.specs.declared.Answer.TheVariants as answer
-use Rattle.cmdline.specs.declared.Cmdline.{Cmdline}
-use Rattle.cmdline.specs.declared.DeviceId.{DeviceId}
-use Rattle.cmdline.specs.declared.Reply.{Reply}
-use Rattle.cmdline.specs.declared.in_place.Appended.{Appended}
-use Rattle.cmdline.specs.declared.in_place.Appended.TheVariants as appended
+use Rattle.cmdline.specs.Limit.{limit}
+use Rattle.cmdline.specs.declared.sizes.Lengths.{Lengths}
 use Rattle.cmdline.specs.Text.{size_of, boot_gap, init_gap}
 use Rattle.cmdline.specs.Insertion.{settled}
 use Rattle.cmdline.specs.Device.{device_text}
-use Rattle.cmdline.specs.Held.{clamped_line}
 
--- what is asked, in order, and the slug that is put after the text where every test holds
+-- the tests, in order, and the slug that is put after the text where every test holds
 pub record Append : Type 0 where
   pub tests : List Test
   pub slug : List ℕ
@@ -31,11 +25,29 @@ pub record Append : Type 0 where
 abbrev pub after_tests : List Test → Append → Append
 after_tests ts g = record { tests = ts ++ g.tests; slug = g.slug }
 
+-- a slug that is trimmed: printable bytes, then room in a line of this counted size, with what joins the slug to its
+-- text, and of this capacity
+unfoldable pub slug_append : ℕ → ℕ → List ℕ → Append
+slug_append size c slug =
+    record {
+      tests =
+          (all_bytes printable (trim slug), refusal.InvalidAscii)
+          ∷ (leb (size + length (trim slug)) c, refusal.TooLarge) ∷ [];
+      slug = trim slug;
+    }
+
+-- the tests of n bytes more: room in such a line, then in a buffer after a text, with the space between them
+abbrev pub room_tests : ℕ → ℕ → ℕ → ℕ → ℕ → List Test
+room_tests size c text buffer n =
+    (leb (size + n) c, refusal.TooLarge) ∷ (leb (text + boot_gap text + n) buffer, refusal.TooLarge) ∷ []
+
 -- a slug after a boot text of b bytes, with i bytes of init text and a capacity of c
 unfoldable pub str_append : ℕ → ℕ → ℕ → List ℕ → Append
 str_append b i c slug =
     record {
-      tests = (all_bytes printable (trim slug), refusal.InvalidAscii) ∷ (leb (size_of b i + boot_gap b + length (trim slug)) c, refusal.TooLarge) ∷ [];
+      tests =
+          (all_bytes printable (trim slug), refusal.InvalidAscii)
+          ∷ (leb (size_of b i + boot_gap b + length (trim slug)) c, refusal.TooLarge) ∷ [];
       slug = trim slug;
     }
 
@@ -45,10 +57,11 @@ pair_append b i c key value = after_tests (key_tests key ++ value_tests value) (
 
 -- a key, an equals sign and the values joined by commas
 unfoldable pub list_append : ℕ → ℕ → ℕ → List ℕ → List ℕ → List ℕ → Append
-list_append b i c key values ends = after_tests (list_pre key values ends) (str_append b i c (key ++ listed equals 0 ends values))
+list_append b i c key values ends =
+    after_tests (list_pre key values ends) (str_append b i c (key ++ listed equals 0 ends values))
 
 -- a size that is not 0, then the text of a device
-unfoldable pub device_append : ℕ → ℕ → ℕ → ℕ → ℕ → ℕ → DeviceId → Append
+unfoldable pub device_append : ℕ → ℕ → ℕ → ℕ → ℕ → ℕ → Option ℕ → Append
 device_append b i c size base irq id =
     after_tests ((not (eqb size 0), refusal.MmioSize) ∷ []) (str_append b i c (device_text size base irq id))
 
@@ -56,34 +69,33 @@ device_append b i c size base irq id =
 unfoldable pub init_append : ℕ → ℕ → ℕ → List ℕ → Append
 init_append b i c slug =
     record {
-      tests = (all_bytes printable (trim slug), refusal.InvalidAscii) ∷ (leb (size_of b i + init_gap i + length (trim slug)) c, refusal.TooLarge) ∷ [];
+      tests =
+          (all_bytes printable (trim slug), refusal.InvalidAscii)
+          ∷ (leb (size_of b i + init_gap i + length (trim slug)) c, refusal.TooLarge) ∷ [];
       slug = trim slug;
     }
 
--- what is said: the length of the text after it, or the refusal
-abbrev pub appended_of : Gate → ℕ → Appended
-appended_of Open n = appended.Length n
-appended_of (Shut r) n = appended.Refused r
+-- an insertion by the lengths of a line: each number above the limit counts as the limit
+abbrev pub clamped : {A : Type 0} → (ℕ → ℕ → ℕ → A) → Lengths → A
+clamped append l = append (min l.boot_len limit) (min l.init_len limit) (min l.capacity limit)
 
--- s after a text of n bytes in a buffer, as far as the buffer goes, where the gate is open; else nothing
-pub record AppendsBy (gate : Gate) (buffer : List ℕ) (n : ℕ) (s : List ℕ) (r : Appended) (left : List ℕ) : Type 0 where
+-- what is said: the length of the text after it, or the refusal
+abbrev pub appended_of : Check → ℕ → Result ℕ Refusal
+appended_of (Ok _) n = Ok n
+appended_of (Err r) n = Err r
+
+-- s after a text of n bytes in a buffer, as far as the buffer goes, if no test refused; else nothing
+pub record AppendsBy (gate : Check) (buffer : List ℕ) (n : ℕ) (s : List ℕ) (r : Result ℕ Refusal) (left : List ℕ)
+    : Type 0 where
   pub answer : r ≡ appended_of gate (min (n + length (space_after n ++ s)) (length buffer))
   pub bytes : left ≡ settled gate buffer (sets buffer n (space_after n ++ s))
 
 -- the tests of an insertion after a text of n bytes, and then that the buffer holds the whole text
-abbrev pub append_gate : Append → List ℕ → ℕ → Gate
-append_gate g buffer n = asked (asked_all Open g.tests) (leb (n + length (space_after n ++ g.slug)) (length buffer)) refusal.TooLarge
+abbrev pub append_gate : Append → List ℕ → ℕ → Check
+append_gate g buffer n =
+    asked (asked_all pass g.tests) (leb (n + length (space_after n ++ g.slug)) (length buffer)) refusal.TooLarge
 
 -- an insertion into a buffer: the length of the whole text, which is there; or the refusal, and the buffer as it was
-pub record Appends (g : Append) (buffer : List ℕ) (n : ℕ) (r : Appended) (left : List ℕ) : Type 0 where
+pub record Appends (g : Append) (buffer : List ℕ) (n : ℕ) (r : Result ℕ Refusal) (left : List ℕ) : Type 0 where
   pub answer : r ≡ appended_of (append_gate g buffer n) (n + length (space_after n ++ g.slug))
   pub bytes : left ≡ settled (append_gate g buffer n) buffer (sets buffer n (space_after n ++ g.slug))
-
--- the line with another boot buffer, where its text has appended
-abbrev pub boot_reply : Appended → List ℕ → Cmdline → Reply
-boot_reply (appended.Length n) boot l = record { answer = answer.Accepted; line = clamped_line boot n l.init l.inits l.capacity }
-boot_reply (appended.Refused r) boot l = record { answer = answer.Refused r; line = l }
-
-abbrev pub init_reply : Appended → List ℕ → Cmdline → Reply
-init_reply (appended.Length n) init l = record { answer = answer.Accepted; line = clamped_line l.boot l.boots init n l.capacity }
-init_reply (appended.Refused r) init l = record { answer = answer.Refused r; line = l }

@@ -1,12 +1,8 @@
--- What an insertion asks, in order, and the texts that it leaves.
-use Rattle.std.specs.Prelude.{ℕ, List, [], ◌∷◌, ◌++◌, length}
-use Rattle.answers.specs.Tests.{Test, asked_all}
+-- The tests of an insertion, in order, and the texts that it leaves.
+use Rattle.std.specs.Prelude.{ℕ, List, [], ◌∷◌, ◌++◌, length, Ok, Err}
+use Rattle.answers.specs.Tests.{Test, asked_all, Check, pass}
 use Rattle.answers.specs.declared.Refusal.TheVariants as refusal
-use Rattle.answers.specs.declared.Gate.{Gate}
-use Rattle.answers.specs.declared.Gate.TheVariants.{Open, Shut}
-use Rattle.answers.specs.Catalogue.{number_of}
-use Rattle.cmdline.specs.declared.Answer.{Answer}
-use Rattle.cmdline.specs.declared.Answer.TheVariants.{Accepted, Refused}
+use Rattle.answers.specs.Catalogue.{check_number}
 use Rattle.slugs.specs.Bytes.{equals, printable, all_bytes}
 use Rattle.slugs.specs.Trimming.{trim}
 use Rattle.slugs.specs.Keys.{key_tests}
@@ -15,28 +11,27 @@ use Rattle.slugs.specs.Joining.{joined}
 use Rattle.slugs.specs.Lists.{list_pre, listed}
 use Rattle.cmdline.specs.Text.{Text, boot_room, init_room}
 
--- what a call asks, in order, and the line where every test holds
+-- the tests of a call, in order, and the line where every test holds
 pub record Plan : Type 0 where
   pub tests : List Test
   pub text : Text
 
-abbrev pub plan_gate : Plan → Gate
-plan_gate p = asked_all Open p.tests
+abbrev pub plan_gate : Plan → Check
+plan_gate p = asked_all pass p.tests
 
 -- what a call says: the refusal of the first test that fails
-abbrev pub answer_of : Gate → Answer
-answer_of Open = Accepted
-answer_of (Shut r) = Refused r
+abbrev pub answer_of : Check → Check
+answer_of (Ok _) = pass
+answer_of (Err r) = Err r
 
 -- the catalogue's number of an answer; an accepted call has none, and counts as 0
-abbrev pub call_number : Answer → ℕ
-call_number Accepted = 0
-call_number (Refused r) = number_of r
+abbrev pub call_number : Check → ℕ
+call_number check = check_number check
 
--- what stands after a call: the new where every test held, and the old, unchanged, where one failed
-abbrev pub settled : {A : Type 0} → Gate → A → A → A
-settled Open old new = new
-settled (Shut r) old new = old
+-- what is there after a call: the new where every test held, and the old, unchanged, where one failed
+abbrev pub settled : {A : Type 0} → Check → A → A → A
+settled (Ok _) old new = new
+settled (Err r) old new = old
 
 -- some tests first, and then a plan
 abbrev pub after : List Test → Plan → Plan
@@ -52,7 +47,9 @@ with_init t i = record { boot = t.boot; init = i; capacity = t.capacity }
 unfoldable pub insert_str : Text → List ℕ → Plan
 insert_str t slug =
     record {
-      tests = (all_bytes printable (trim slug), refusal.InvalidAscii) ∷ (boot_room t (length (trim slug)), refusal.TooLarge) ∷ [];
+      tests =
+          (all_bytes printable (trim slug), refusal.InvalidAscii)
+          ∷ (boot_room t (length (trim slug)), refusal.TooLarge) ∷ [];
       text = with_boot t (joined t.boot (trim slug));
     }
 
@@ -60,7 +57,9 @@ insert_str t slug =
 unfoldable pub insert_init_args : Text → List ℕ → Plan
 insert_init_args t slug =
     record {
-      tests = (all_bytes printable (trim slug), refusal.InvalidAscii) ∷ (init_room t (length (trim slug)), refusal.TooLarge) ∷ [];
+      tests =
+          (all_bytes printable (trim slug), refusal.InvalidAscii)
+          ∷ (init_room t (length (trim slug)), refusal.TooLarge) ∷ [];
       text = with_init t (joined t.init (trim slug));
     }
 
@@ -68,6 +67,7 @@ insert_init_args t slug =
 unfoldable pub insert : Text → List ℕ → List ℕ → Plan
 insert t key value = after (key_tests key ++ value_tests value) (insert_str t (pair key value))
 
--- the tests of the list, the key and the values, then the slug of the key, an equals sign and the values joined by commas
+-- the tests of the list, the key and the values, then the slug of the key, an equals sign and the values joined by
+-- commas
 unfoldable pub insert_multiple : Text → List ℕ → List ℕ → List ℕ → Plan
 insert_multiple t key values ends = after (list_pre key values ends) (insert_str t (key ++ listed equals 0 ends values))

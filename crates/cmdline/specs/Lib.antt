@@ -8,6 +8,7 @@ pub mod Making
 pub mod Digits
 pub mod Device
 pub mod Writing
+pub mod SameLaws
 pub mod Held
 pub mod InPlace
 -- what theorems are stated with beside it

@@ -1,4 +1,5 @@
--- How a line is made. A making that is refused leaves an empty line of capacity 0.
+-- How a line is made. A constructor that refuses returns no line; in a row of calls (`specs/Calls`) the calls after it
+-- continue from an empty line of capacity 0.
 use Rattle.std.specs.Prelude.{ℕ, List, [], ◌∷◌, leb, length}
 use Rattle.answers.specs.Tests.{Test}
 use Rattle.answers.specs.declared.Refusal.TheVariants as refusal
@@ -15,7 +16,8 @@ new c = record { tests = (allowed c, refusal.InvalidCapacity) ∷ []; text = emp
 abbrev pub parted : List ℕ → ℕ → Text
 parted s c = record { boot = boot_part s; init = init_part s; capacity = c }
 
--- what is asked of the numbers of a line, texts of b and i bytes and a capacity of c: a capacity that is allowed, then a counted size within it
+-- the tests of the numbers of a line, texts of b and i bytes and a capacity of c: a capacity that is allowed, then a
+-- counted size within it
 abbrev pub size_tests : ℕ → ℕ → ℕ → List Test
 size_tests b i c = (allowed c, refusal.InvalidCapacity) ∷ (leb (size_of b i) c, refusal.InvalidCapacity) ∷ []
 

@@ -6,40 +6,45 @@
 //
 // SPDX-License-Identifier: Apache-2.0 AND BSD-3-Clause
 //
-// The whole text of a line: asked, written, compared.
-ghost use Rattle.std.specs.Prelude.{◌≡◌, [], ◌∷◌, ◌++◌, ◌≤◌, ◌<◌, length, get_or, take};
-ghost use Rattle.answers.specs.Tests.{asked_all};
-ghost use Rattle.answers.specs.declared.Gate.TheVariants.{Open};
+// The whole text of a line: checked, written, compared. A line is passed as its two texts, as the C functions find them
+// in the caller's bytes: a struct of two slices would be filled at each call and taken apart in each function.
+ghost use Rattle.std.specs.Prelude.{◌≡◌, [], ◌∷◌, ◌++◌, take};
+ghost use Rattle.answers.specs.Tests.{pass, asked_all};
 ghost use Rattle.slugs.specs.Stored.{Stored};
 ghost use Rattle.cmdline.specs.Limit.{limit};
-ghost use Rattle.cmdline.specs.Writing.{bare, headed, whole_line, text_tests, same_bytes, same_answer, same_line, Writes};
+ghost use Rattle.cmdline.specs.Writing.{bare, headed, whole_line, separator_before, text_tests};
+ghost use Rattle.cmdline.specs.Writing.{same_bytes, same_line, Writes};
 
-use crate::{LIMIT, Written, sizes};
-use answers::{Gate, Refusal};
-use fields::copying;
+use crate::{LIMIT, sizes};
+use answers::Refusal;
 use slugs::{buffers, bytes};
 
 // No init text, or boot text before it.
-fn is_headed(boots: usize, inits: usize) -> bool
-    ensures { result ≡ headed boots inits }
+#[tactic(auto, unfolding(answers::specs::Pick::pick, crate::specs::Writing::headed))]
+fn is_headed(boot_len: usize, init_len: usize) -> bool
+    ensures { result ≡ headed boot_len init_len }
 {
-    if inits == 0 {
-        return true;
-    }
-    0 < boots
+    init_len == 0 || 0 < boot_len
 }
 
-// What is asked of the whole text.
-pub fn text_gate(boot: &[u8], init: &[u8]) -> Gate
-    ensures { result ≡ asked_all Open (text_tests boot.now init.now) }
+// The tests of the whole text.
+pub fn text_gate(boot: &[u8], init: &[u8]) -> Result<(), Refusal>
+    ensures { result ≡ asked_all pass (text_tests boot.now init.now) }
 {
-    let gate = answers::require(
-        Gate::Open,
+    answers::require(
         is_headed(boot.len(), init.len()),
         Refusal::NoBootArgsInserted,
-    );
-    let gate = answers::require(gate, !bytes::has(boot, 0), Refusal::NullTerminator);
-    answers::require(gate, !bytes::has(init, 0), Refusal::NullTerminator)
+    )?;
+    answers::require(!bytes::has(boot, 0), Refusal::NullTerminator)?;
+    answers::require(!bytes::has(init, 0), Refusal::NullTerminator)
+}
+
+// What is between the boot text and this init text.
+#[tactic(auto, unfolding(answers::specs::Pick::pick, crate::specs::Writing::separator_before))]
+fn separator(init: &[u8]) -> &'static [u8]
+    ensures { result.now ≡ separator_before init.now }
+{
+    if init.is_empty() { b"" } else { b" -- " }
 }
 
 // The whole text and its zero, at the start of out, as far as it goes; the place after them.
@@ -47,107 +52,53 @@ pub fn write(out: &mut [u8], boot: &[u8], init: &[u8]) -> usize
     ensures { Stored out.old 0 (whole_line boot.now init.now ++ (0 ∷ [])) out.new result }
 {
     let at = buffers::put(out, 0, boot);
-    if init.len() == 0 {
-        return buffers::put(out, at, b"\0");
-    }
-    let at = buffers::put(out, at, b" -- ");
+    let at = buffers::put(out, at, separator(init));
     let at = buffers::put(out, at, init);
     buffers::put(out, at, b"\0")
 }
 
-// The text of a line and its closing zero, written to the start of out. Everything is asked first; a refusal writes nothing.
-pub fn as_cstring(out: &mut [u8], boot: &[u8], init: &[u8]) -> Written
+// The text of a line and its closing zero, written to the start of out. Everything is checked first; a refusal
+// writes nothing.
+pub fn as_cstring(out: &mut [u8], boot: &[u8], init: &[u8]) -> Result<usize, Refusal>
     ensures { Writes (bare boot.now init.now) out.old result out.new }
 {
-    let gate = text_gate(boot, init);
-    let room = sizes::fits(out.len(), boot.len(), init.len());
-    let gate = answers::require(gate, room, Refusal::NoRoom);
-    match gate {
-        Gate::Shut(refusal) => Written::Refused(refusal),
-        Gate::Open => {
-            let count = write(out, boot, init);
-            Written::Bytes(count)
-        }
-    }
+    text_gate(boot, init)?;
+    answers::require(
+        sizes::fits(out.len(), boot.len(), init.len()),
+        Refusal::NoRoom,
+    )?;
+    Ok(write(out, boot, init))
 }
 
-fn whole_len(boot: &[u8], init: &[u8]) -> usize
-    requires { (length boot.now ≤ limit) × (length init.now ≤ limit) }
-    ensures { result ≡ length (whole_line boot.now init.now) }
-{
-    if init.len() == 0 {
-        return boot.len();
-    }
-    boot.len() + 4 + init.len()
-}
-
-// The byte at a place of the whole text.
-fn byte_at(boot: &[u8], init: &[u8], i: usize) -> u8
-    requires { i < length (whole_line boot.now init.now) }
-    ensures { result ≡ get_or (whole_line boot.now init.now) i 0 }
-{
-    if i < boot.len() {
-        return boot[i];
-    }
-    let k = i - boot.len();
-    if k < 4 {
-        let separator = b" -- ";
-        return separator[k];
-    }
-    init[k - 4]
-}
-
+// Are two whole texts the same? Not `==` of slices: each is two texts, and what is written between them. Texts of
+// different sizes are not compared byte by byte.
 fn same_whole(boot: &[u8], init: &[u8], boot2: &[u8], init2: &[u8]) -> bool
-    requires { (length boot.now ≤ limit) × (length init.now ≤ limit) × (length boot2.now ≤ limit) × (length init2.now ≤ limit) }
     ensures { result ≡ same_bytes (whole_line boot.now init.now) (whole_line boot2.now init2.now) }
 {
-    let n = whole_len(boot, init);
-    if n != whole_len(boot2, init2) {
+    if sizes::size(boot.len(), init.len()) != sizes::size(boot2.len(), init2.len()) {
         return false;
     }
-    let mut i = 0;
-    while i < n {
-        if byte_at(boot, init, i) != byte_at(boot2, init2, i) {
-            return false;
-        }
-        i += 1;
-    }
-    true
-}
-
-// Two answers: the same refusal, or texts of which it is told whether they are the same.
-fn same_answer(gate: Gate, other: Gate, same: bool) -> bool
-    ensures { result ≡ same_answer gate other same }
-{
-    match gate {
-        Gate::Open => match other {
-            Gate::Open => same,
-            Gate::Shut(_) => false,
-        },
-        Gate::Shut(refusal) => match other {
-            Gate::Open => false,
-            Gate::Shut(second) => answers::number(refusal) == answers::number(second),
-        },
-    }
+    let whole = boot.iter().chain(separator(init)).chain(init);
+    whole.eq(boot2.iter().chain(separator(init2)).chain(init2))
 }
 
 // As much of a text as a line can hold.
 fn clipped(s: &[u8]) -> &[u8]
     ensures { result.now ≡ take limit s.now }
 {
-    let end = copying::lesser(s.len(), LIMIT);
-    &s[..end]
+    &s[..s.len().min(LIMIT)]
 }
 
-// Are the written answers of two lines, given room, the same? Of a text that is longer than the limit, which no line holds, the first LIMIT
-// bytes count.
+// Would two lines be written as the same bytes, or refused alike, in a buffer that is large enough? Of a text that is
+// longer than the limit, which no line holds, the first LIMIT bytes count.
 pub fn same_line(boot: &[u8], init: &[u8], boot2: &[u8], init2: &[u8]) -> bool
-    ensures { result ≡ same_line (bare (take limit boot.now) (take limit init.now)) (bare (take limit boot2.now) (take limit init2.now)) }
+    ensures { result ≡ same_line (bare (take limit boot.now) (take limit init.now))
+        (bare (take limit boot2.now) (take limit init2.now)) }
 {
     let boot = clipped(boot);
     let init = clipped(init);
     let boot2 = clipped(boot2);
     let init2 = clipped(init2);
-    let same = same_whole(boot, init, boot2, init2);
-    same_answer(text_gate(boot, init), text_gate(boot2, init2), same)
+    let first = text_gate(boot, init);
+    first == text_gate(boot2, init2) && (first.is_err() || same_whole(boot, init, boot2, init2))
 }

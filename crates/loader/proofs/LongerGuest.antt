@@ -1,5 +1,7 @@
 -- The sentence that memory which grows, within the limit and while the old map and the new are good ones, keeps an accepted loading and the
 -- refusal InvalidCommandLine, and that CommandLineOverflow alone may lift; the old bytes are as they were before, and the added ones untouched.
+use Rattle.answers.specs.Tests.{Check}
+use Rattle.std.specs.Prelude.{Err}
 use Prim.Native.Nat.{ℕ, ◌≤◌}
 use mathlib.Core.Path.{◌≡◌, sym, ◌∙◌, refl}
 use mathlib.Core.Bool.{true}
@@ -20,15 +22,13 @@ use Rattle.guest.proofs.MapsLaws.{good_longer}
 use Rattle.guest.proofs.RoomLaws.{longer_grows, larger_grows, allowed_longer, memory_stays}
 use Rattle.guest.proofs.StreamLaws.{inside_at}
 use Rattle.guest.proofs.LoadingLaws.{load_kept, behind_inside, behind_keeps}
-use Rattle.loader.specs.declared.Answer.{Answer}
-use Rattle.loader.specs.declared.Answer.TheVariants.{Refused}
 use Rattle.loader.specs.Lines.{line_bytes, text_row, tests, line_plan, plan_of, ForRoom, LineLoads}
 use Rattle.loader.proofs.LinesLaws.{hold_room}
 
 module _ (t : Text) (m : Memory) (address : ℕ) where
   pub plan_inside : Inside m (plan_of t m address).stream
   plan_inside =
-      behind_inside Refused (tests t m address) (line_plan t address) m
+      behind_inside Err (tests t m address) (line_plan t address) m
       (λ hold. inside_at m address (length (line_bytes t)) (line_bytes t) (hold_room t m address hold) (omega arith))
 
   rows_widen : (m' : Memory) → Grows m m' → allowed m'.size ≡ allowed m.size → good_map m'.size m'.map ≡ good_map m.size m.map
@@ -39,15 +39,15 @@ module _ (t : Text) (m : Memory) (address : ℕ) where
 
 -- ---- of the loading's contract
 
-module _ (t : Text) (address : ℕ) (map : Map) (guest more : List ℕ) {r r' : Answer} {after after' : List ℕ}
+module _ (t : Text) (address : ℕ) (map : Map) (guest more : List ℕ) {r r' : Check} {after after' : List ℕ}
     (before : LineLoads t address map guest r after) (short : length (guest ++ more) ≤ longest) (good : good_map (length guest) map ≡ true)
-    (stays : RefusedFor Refused ForRoom r → ⊥) where
+    (stays : RefusedFor Err ForRoom r → ⊥) where
   pub guest_grows : (map' : Map) → good_map (length (guest ++ more)) map' ≡ true → Grows (memory_of guest map) (memory_of (guest ++ more) map')
       → LineLoads t address map' (guest ++ more) r' after' → (r' ≡ r) × (after' ≡ after ++ more)
   guest_grows map' good' more_Room longer =
-      load_kept (plan_of t (memory_of guest map) address) guest after before (RefusedFor Refused ForRoom) (memory_of guest map)
+      load_kept (plan_of t (memory_of guest map) address) guest after before (RefusedFor Err ForRoom) (memory_of guest map)
       (plan_inside t (memory_of guest map) address) (omega arith)
-      (behind_keeps Refused ForRoom
+      (behind_keeps Err ForRoom
       (rows_widen t (memory_of guest map) address (memory_of (guest ++ more) map') more_Room (allowed_longer guest more short) (good' ∙ sym good)) (λ _. same))
       more longer stays
 

@@ -1,10 +1,10 @@
 -- A line put into guest memory: the tests in their order, then the line and its zero.
-use Rattle.std.specs.Prelude.{ℕ, ◌≡◌, List, [], ◌∷◌, ◌++◌, length}
+use Rattle.std.specs.Prelude.{ℕ, ◌≡◌, List, [], ◌∷◌, ◌++◌, length, Ok, Err, is_ok}
 use Rattle.answers.specs.Catalogue.{number_of}
-use Rattle.answers.specs.Tests.{Test, is_open}
+use Rattle.answers.specs.Tests.{Test, Check, pass}
 use Rattle.answers.specs.declared.Refusal.{Refusal}
-use Rattle.answers.specs.declared.Refusal.TheVariants.{InvalidCommandLine, CommandLineOverflow, NoBootArgsInserted, NullTerminator}
-use Rattle.answers.specs.declared.Gate.TheVariants.{Shut}
+use Rattle.answers.specs.declared.Refusal.TheVariants.{InvalidCommandLine, CommandLineOverflow}
+use Rattle.answers.specs.declared.Refusal.TheVariants.{NoBootArgsInserted, NullTerminator}
 use Rattle.cmdline.specs.Text.{Text}
 use Rattle.cmdline.specs.Writing.{whole, text_gate, bare}
 use Rattle.guest.specs.Lent.{memory_tests}
@@ -13,8 +13,6 @@ use Rattle.guest.specs.Room.{room, memory_of}
 use Rattle.guest.specs.Stream.{pour, stream_at}
 use Rattle.guest.specs.declared.Map.{Map}
 use Rattle.guest.specs.declared.Memory.{Memory}
-use Rattle.loader.specs.declared.Answer.{Answer}
-use Rattle.loader.specs.declared.Answer.TheVariants.{Loaded, Refused}
 
 -- the line and its zero
 abbrev pub line_bytes : Text → List ℕ
@@ -22,7 +20,7 @@ line_bytes t = whole t ++ (0 ∷ [])
 
 -- the text: what writing it, given room, would say
 abbrev pub text_row : Text → List Test
-text_row t = (is_open (text_gate t), InvalidCommandLine) ∷ []
+text_row t = (is_ok (text_gate t), InvalidCommandLine) ∷ []
 
 -- room for the line and its zero
 abbrev pub room_row : Text → Memory → ℕ → List Test
@@ -33,14 +31,14 @@ abbrev pub tests : Text → Memory → ℕ → List Test
 tests t m address = memory_tests m ++ text_row t ++ room_row t m address
 
 -- where they hold the line is written
-abbrev pub line_plan : Text → ℕ → Plan Answer
-line_plan t address = record { answer = Loaded; stream = stream_at address (line_bytes t) }
+abbrev pub line_plan : Text → ℕ → Plan Check
+line_plan t address = record { answer = pass; stream = stream_at address (line_bytes t) }
 
-abbrev pub plan_of : Text → Memory → ℕ → Plan Answer
-plan_of t m address = behind_tests Refused (tests t m address) (line_plan t address)
+abbrev pub plan_of : Text → Memory → ℕ → Plan Check
+plan_of t m address = behind_tests Err (tests t m address) (line_plan t address)
 
 -- loading a line into guest memory with a map that held `before`: it answers r and leaves `after`
-abbrev pub LineLoads : Text → ℕ → Map → List ℕ → Answer → List ℕ → Type 0
+abbrev pub LineLoads : Text → ℕ → Map → List ℕ → Check → List ℕ → Type 0
 LineLoads t address map before r after = Loads (plan_of t (memory_of before map) address) before r after
 
 -- the one refusal that more guest memory may lift
@@ -49,19 +47,21 @@ ForRoom refusal = refusal ≡ CommandLineOverflow
 
 -- writing the line would be refused for its text, by one of the two refusals that there are
 pub data TextRefused (t : Text) : Type 0 where
-  no_boot_args : text_gate t ≡ Shut NoBootArgsInserted → TextRefused t
-  null_terminator : text_gate t ≡ Shut NullTerminator → TextRefused t
+  no_boot_args : text_gate t ≡ Err NoBootArgsInserted → TextRefused t
+  null_terminator : text_gate t ≡ Err NullTerminator → TextRefused t
 
 -- the catalogue's number of an answer; a line that is loaded has none, and counts as 0
-unfoldable pub line_number : Answer → ℕ
-line_number Loaded = 0
-line_number (Refused refusal) = number_of refusal
+unfoldable pub line_number : Check → ℕ
+line_number (Ok _) = 0
+line_number (Err refusal) = number_of refusal
 
 -- the numbers that it may have beside 0, in the order in which they are asked
 abbrev pub line_numbers : List ℕ
 line_numbers = 60 ∷ 77 ∷ 31 ∷ 32 ∷ []
 
--- what loading the line of two texts says and leaves, as one list: the number of the answer, then guest memory. The capacity has no part in it
+-- what loading the line of two texts says and leaves, as one list: the number of the answer, then guest memory. The
+-- capacity has no part in it
 unfoldable pub load_told : ℕ → Map → List ℕ → List ℕ → List ℕ → List ℕ
 load_told address map guest boot init =
-    line_number (plan_of (bare boot init) (memory_of guest map) address).answer ∷ pour (plan_of (bare boot init) (memory_of guest map) address).stream guest
+    line_number (plan_of (bare boot init) (memory_of guest map) address).answer
+    ∷ pour (plan_of (bare boot init) (memory_of guest map) address).stream guest

@@ -8,9 +8,11 @@
 // found in the NOTICE file.
 //
 // SPDX-License-Identifier: Apache-2.0 AND BSD-3-Clause
-#![tactic(auto)]
+//
+// A command line put into guest memory. The tests come first, in their order; then the line is written where it has
+// room.
+#![tactic(auto, unfolding(answers::specs::Pick::pick, answers::specs::Tests::asked))]
 
-// A command line put into guest memory. The tests come first, in their order; then the line is written where it has room.
 ghost use Rattle.std.specs.Prelude.{◌≡◌};
 ghost use Rattle.cmdline.specs.Held.{text_of};
 ghost use Rattle.cmdline.specs.Text.{size_of};
@@ -18,90 +20,65 @@ ghost use Rattle.cmdline.specs.Writing.{bare};
 ghost use Rattle.guest.specs.Room.{room};
 ghost use Rattle.loader.specs.Lines.{plan_of, LineLoads};
 
-use answers::{Gate, Refusal};
-use cmdline::{Cmdline, LIMIT, sizes, writing};
-use fields::copying;
+use answers::Refusal;
+use cmdline::{Cmdline, sizes, writing};
 use guest::{GuestAddress, Map, Memory, lent, room};
 
-#[derive(Clone, Copy)]
-pub enum Answer {
-    Loaded,
-    Refused(Refusal),
-}
-
-// Is there room at an address for a line whose texts have these lengths, with its zero? Where the line is longer than guest memory, its size is
-// not summed.
-fn line_has_room(memory: Memory, address: GuestAddress, boots: usize, inits: usize) -> bool
-    ensures { result ≡ room memory address.0 (size_of boots inits) }
+// Is there room at an address for a line whose texts have these lengths, with its zero?
+fn line_has_room(memory: &Memory, address: GuestAddress, boot_len: usize, init_len: usize) -> bool
+    ensures { result ≡ room memory.now address.0 (size_of boot_len init_len) }
 {
-    if !sizes::fits(memory.size as usize, boots, inits) {
-        return false;
-    }
-    if inits == 0 {
-        return room::has_room(memory, address, boots as u64 + 1);
-    }
-    room::has_room(memory, address, boots as u64 + 1 + (4 + inits as u64))
+    // A size that passes 64 bits has no room, and `size` has another number for it.
+    sizes::fits(memory.size as usize, boot_len, init_len)
+        && room::has_room(memory, address, sizes::size(boot_len, init_len) as u64)
 }
 
-// What loading the line of two texts into a memory answers: the tests, in their order.
-pub fn plan_texts(memory: Memory, guest_addr: GuestAddress, boot: &[u8], init: &[u8]) -> Answer
-    ensures { result ≡ (plan_of (bare boot.now init.now) memory guest_addr.0).answer }
+// The answer of loading the line of two texts into a memory: the tests, in their order.
+pub fn plan_texts(
+    memory: &Memory,
+    guest_addr: GuestAddress,
+    boot: &[u8],
+    init: &[u8],
+) -> Result<(), Refusal>
+    ensures { result ≡ (plan_of (bare boot.now init.now) memory.now guest_addr.0).answer }
 {
-    let gate = lent::ask_memory(Gate::Open, memory);
-    let gate = answers::require(
-        gate,
-        answers::is_open(writing::text_gate(boot, init)),
-        Refusal::InvalidCommandLine,
-    );
-    let gate = answers::require(
-        gate,
-        line_has_room(memory, guest_addr, boot.len(), init.len()),
-        Refusal::CommandLineOverflow,
-    );
-    match gate {
-        Gate::Shut(refusal) => Answer::Refused(refusal),
-        Gate::Open => Answer::Loaded,
-    }
+    lent::ask_memory(memory)?;
+    writing::text_gate(boot, init).map_err(|_| Refusal::InvalidCommandLine)?;
+    let has_room = line_has_room(memory, guest_addr, boot.len(), init.len());
+    answers::require(has_room, Refusal::CommandLineOverflow)
 }
 
-// Writes the line of two texts and its zero to an address. The part of guest memory that begins there is lent on, and the writer sees only
-// that part.
+// Writes the line of two texts and its zero to an address. The writer borrows the part of guest memory that begins
+// there, and sees only that part.
 pub fn load_texts(
     guest: &mut [u8],
     map: Map,
     guest_addr: GuestAddress,
     boot: &[u8],
     init: &[u8],
-) -> Answer
+) -> Result<(), Refusal>
     ensures { LineLoads (bare boot.now init.now) guest_addr.0 map guest.old result guest.new }
 {
-    let memory = Memory {
-        size: guest.len() as u64,
-        map: map,
-    };
-    let answer = plan_texts(memory, guest_addr, boot, init);
-    match answer {
-        Answer::Refused(refusal) => Answer::Refused(refusal),
-        Answer::Loaded => {
-            let at = copying::lesser(guest_addr.0 as usize, guest.len());
-            writing::write(&mut guest[at..], boot, init);
-            Answer::Loaded
-        }
-    }
+    plan_texts(&Memory::of(guest, map), guest_addr, boot, init)?;
+    let at = (guest_addr.0 as usize).min(guest.len());
+    writing::write(&mut guest[at..], boot, init);
+    Ok(())
 }
 
-// The same of a line by value.
+// The same for a `Cmdline`.
 pub fn load_cmdline(
     guest: &mut [u8],
     map: Map,
     guest_addr: GuestAddress,
-    cmdline: Cmdline,
-) -> Answer
-    ensures { LineLoads (text_of cmdline) guest_addr.0 map guest.old result guest.new }
+    cmdline: &Cmdline,
+) -> Result<(), Refusal>
+    ensures { LineLoads (text_of cmdline.now) guest_addr.0 map guest.old result guest.new }
 {
-    let boots = copying::lesser(cmdline.boots, LIMIT);
-    let inits = copying::lesser(cmdline.inits, LIMIT);
-    let boot = cmdline.boot;
-    let init = cmdline.init;
-    load_texts(guest, map, guest_addr, &boot[..boots], &init[..inits])
+    load_texts(
+        guest,
+        map,
+        guest_addr,
+        cmdline.boot_text(),
+        cmdline.init_text(),
+    )
 }

@@ -20,7 +20,7 @@ module _ (s : List ℕ) (i : ℕ) where
   pub part_end : take (length s - i) (drop i s) ≡ drop i s
   part_end = take_all (length s - i) (drop i s) (simp length-drop (omega arith))
 
--- a run that begins with what stands there
+-- a run that begins with what is there
 pub sets_same : (d : List ℕ) (n : ℕ) → n ≤ length d → sets d 0 (take n d) ≡ d
 sets_same d n h =
     let l : length (take n d) ≡ n = length-take-le n d h in

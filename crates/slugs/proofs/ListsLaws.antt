@@ -1,6 +1,9 @@
 -- Laws of a list of values: its tests, its parts, its text.
-use Prim.Native.Nat.{ℕ, ◌+◌, ◌-◌, ◌≤◌, ◌<◌, min}
-use mathlib.Core.Path.{◌≡◌, refl, sym, ◌∙◌}
+use Rattle.std.specs.Prelude.{Err}
+use native.Mathlib.Numerals.{add-one}
+use native.Mathlib.Nat.{le_of_suc-le-suc}
+use Prim.Native.Nat.{ℕ, zero, suc, ◌+◌, ◌-◌, ◌≤◌, ◌<◌, min}
+use mathlib.Core.Path.{◌≡◌, refl, sym, ap, ◌∙◌}
 use mathlib.Core.Bool.{true, false}
 use mathlib.Core.List.{List, [], ◌∷◌, ◌++◌, append-nil}
 use native.Mathlib.Omega.{arith}
@@ -10,43 +13,56 @@ use lib.ListN.{length, take, drop, get_or, length-append, length-drop, drop_of_l
 use lib.Seq.{take_all, take-nil, length-take-le}
 use borrow.Author.Tests.{eq-eqb, ne_eqb, le-leb, lt-leb, leb-true, eqb-true, ltb-true}
 use Rattle.answers.specs.Pick.{pick}
-use Rattle.answers.specs.Tests.{asked_all, AllHold}
+use Rattle.answers.specs.Tests.{asked_all, AllHold, Check, pass}
+use Rattle.answers.specs.declared.Refusal.{Refusal}
 use Rattle.answers.specs.declared.Refusal.TheVariants as refusal
-use Rattle.answers.specs.declared.Gate.{Gate}
-use Rattle.answers.proofs.TestsLaws.{asked_append, hold_left, hold_right}
+use Rattle.answers.proofs.TestsLaws.{asked_append, shut_stays, hold_left, hold_right}
 use Rattle.slugs.specs.Bytes.{equals, comma, blank, printable, all_bytes}
 use Rattle.slugs.specs.Trimming.{trim_end, trim}
 use Rattle.slugs.specs.Keys.{key_tests}
 use Rattle.slugs.specs.Values.{value_tests}
 use Rattle.slugs.specs.Lists.{rising, good_list, part, list_tests, list_pre, listed}
 use Rattle.slugs.proofs.ListLaws.{here, gone, part_end}
-use Rattle.slugs.proofs.BytesLaws.{both_left, both_right, every_append}
+use Rattle.slugs.proofs.BytesLaws.{both_left, both_right, and_false, every_append}
 use Rattle.slugs.proofs.TrimmingLaws.{end_append}
 use Rattle.slugs.proofs.ValuesLaws.{key_printable, value_printable, value_kept, key_kept}
 
--- ---- ends that rise, from a place on
+-- ---- ends that rise
 
-module _ (es : List ℕ) (at n i : ℕ) where
-  pub rise_stop : i < length es → get_or es i 0 < at → rising at (drop i es) n ≡ false
-  unfolding rising
-  rise_stop h l = rw (here es i h, lt-leb at (get_or es i 0) l)
+-- no end is below the one before it: then the last one decides
+rises : (at : ℕ) (es : List ℕ) (n : ℕ) → (0 < length es → at ≤ get_or es 0 0) → ((k : ℕ) → suc k < length es → get_or es k 0 ≤ get_or es (suc k) 0)
+    → rising at es n ≡ eqb (get_or (at ∷ es) (length es) 0) n
+unfolding rising
+rises at [] n first next = refl
+rises at (e ∷ es) n first next =
+    rw (le-leb at e (first (omega arith)))
+    (rises e es n (λ h. next 0 (omega arith)) (λ k h. next (suc k) (omega arith)))
 
-  pub rise_on : i < length es → at ≤ get_or es i 0 → rising at (drop i es) n ≡ rising (get_or es i 0) (drop (i + 1) es) n
-  unfolding rising
-  rise_on h l = rw (here es i h, le-leb at (get_or es i 0) l)
-
-  pub rise_end : length es ≤ i → rising at (drop i es) n ≡ eqb at n
-  unfolding rising
-  rise_end h = rw (gone es i h)
+-- one end is: the list is bad
+falls : (at : ℕ) (es : List ℕ) (n k : ℕ) → suc k < length es → get_or es (suc k) 0 < get_or es k 0 → rising at es n ≡ false
+unfolding rising
+falls at [] n k h l = absurd (omega arith)
+falls at (e ∷ []) n k h l = absurd (omega arith)
+falls at (e ∷ (x ∷ xs)) n zero h l = rw (lt-leb e x l) (and_false (leb at e))
+falls at (e ∷ (x ∷ xs)) n (suc k) h l = rw (falls e (x ∷ xs) n k (le_of_suc-le-suc h) l) (and_false (leb at e))
 
 module _ (es : List ℕ) (n : ℕ) where
   pub list_none : length es ≡ 0 → true ≡ good_list es n
   unfolding good_list pick
   list_none z = rw (eq-eqb (length es) 0 z)
 
-  pub list_some : (length es ≡ 0 → ⊥) → rising 0 es n ≡ good_list es n
+  list_some : (length es ≡ 0 → ⊥) → rising 0 es n ≡ good_list es n
   unfolding good_list pick
   list_some z = rw (ne_eqb (length es) 0 z)
+
+  pub list_sorted : 0 < length es → ((k : ℕ) → k + 1 < length es → get_or es k 0 ≤ get_or es (k + 1) 0)
+      → eqb (get_or es (length es - 1) 0) n ≡ good_list es n
+  list_sorted some next =
+      let last : length es ≡ suc (length es - 1) = omega arith in
+      ap (λ (k : ℕ). eqb (get_or (0 ∷ es) k 0) n) (sym last) ∙ sym (rises 0 es n (λ h. omega arith) (λ k h. let w : get_or es k 0 ≤ get_or es (suc k) 0 = rw (← add-one k) (next k (omega arith)) in w)) ∙ list_some (λ z. omega arith)
+
+  pub list_fallen : (k : ℕ) → k + 1 < length es → get_or es (k + 1) 0 < get_or es k 0 → false ≡ good_list es n
+  list_fallen k h l = sym (falls 0 es n k (omega arith) (let w : get_or es (suc k) 0 < get_or es k 0 = rw (← add-one k) l in w)) ∙ list_some (λ z. omega arith)
 
 rising_le : (at : ℕ) (es : List ℕ) (n : ℕ) → rising at es n ≡ true → at ≤ n
 unfolding rising
@@ -81,14 +97,28 @@ part_clipped s at end {from} {to} et ef = split (dec_le at end) (dec_le at (leng
 -- ---- one value more, from a place of the list on
 
 module _ (es s : List ℕ) (at i : ℕ) where
-  pub tests_on : (g : Gate) → i < length es
-      → asked_all (asked_all g (value_tests (part at (get_or es i 0) s))) (list_tests (get_or es i 0) (drop (i + 1) es) s) ≡ asked_all g (list_tests at (drop i es) s)
+  -- the tests of the value at i hold
+  pub tests_on : i < length es → asked_all pass (value_tests (part at (get_or es i 0) s)) ≡ pass
+      → asked_all pass (list_tests at (drop i es) s) ≡ asked_all pass (list_tests (get_or es i 0) (drop (i + 1) es) s)
   unfolding list_tests
-  tests_on g h = rw (here es i h) (sym (asked_append g (value_tests (part at (get_or es i 0) s)) (list_tests (get_or es i 0) (drop (i + 1) es) s)))
+  tests_on h held =
+      rw (here es i h)
+      (asked_append pass (value_tests (part at (get_or es i 0) s)) (list_tests (get_or es i 0) (drop (i + 1) es) s)
+      ∙ ap (λ (g : Check). asked_all g (list_tests (get_or es i 0) (drop (i + 1) es) s)) held)
 
-  pub tests_end : (g : Gate) → length es ≤ i → asked_all g (list_tests at (drop i es) s) ≡ g
+  -- one of them fails
+  pub tests_stop : {r : Refusal} → i < length es → asked_all pass (value_tests (part at (get_or es i 0) s)) ≡ Err r
+      → asked_all pass (list_tests at (drop i es) s) ≡ Err r
   unfolding list_tests
-  tests_end g h = rw (gone es i h)
+  tests_stop {r} h failed =
+      rw (here es i h)
+      (asked_append pass (value_tests (part at (get_or es i 0) s)) (list_tests (get_or es i 0) (drop (i + 1) es) s)
+      ∙ ap (λ (g : Check). asked_all g (list_tests (get_or es i 0) (drop (i + 1) es) s)) failed
+      ∙ shut_stays (list_tests (get_or es i 0) (drop (i + 1) es) s) r)
+
+  pub tests_end : length es ≤ i → asked_all pass (list_tests at (drop i es) s) ≡ pass
+  unfolding list_tests
+  tests_end h = rw (gone es i h)
 
   pub listed_on : (mark : ℕ) → i < length es
       → listed mark at (drop i es) s ≡ ((mark ∷ []) ++ part at (get_or es i 0) s) ++ listed comma (get_or es i 0) (drop (i + 1) es) s

@@ -1,4 +1,4 @@
--- Each public function permits one outcome. `trimmed` and `after` lend back a part of what they were lent: its bytes are one.
+-- Each public function permits one outcome. `trimmed` and `after` return a part of what they borrow: its bytes are one.
 use mathlib.Core.Path.{◌≡◌, refl}
 use contract.Lifetimes.{Lfts}
 use denote.Triple.Clauses.{Lasts, at_exit}
@@ -19,14 +19,14 @@ use Rattle.slugs.proofs.bytes.all_printable.Kinds as all_printable_kinds
 use Rattle.slugs.proofs.bytes.all_printable.Reads as all_printable_reads
 use Rattle.slugs.proofs.bytes.has.Kinds as has_kinds
 use Rattle.slugs.proofs.bytes.has.Reads as has_reads
-use Rattle.slugs.proofs.keys.ask.Kinds as keys_ask_kinds
-use Rattle.slugs.proofs.keys.ask.Reads as keys_ask_reads
-use Rattle.slugs.proofs.values.ask.Kinds as values_ask_kinds
-use Rattle.slugs.proofs.values.ask.Reads as values_ask_reads
+use Rattle.slugs.proofs.keys.check.Kinds as keys_check_kinds
+use Rattle.slugs.proofs.keys.check.Reads as keys_check_reads
+use Rattle.slugs.proofs.values.check.Kinds as values_check_kinds
+use Rattle.slugs.proofs.values.check.Reads as values_check_reads
 use Rattle.slugs.proofs.lists.is_list.Kinds as is_list_kinds
 use Rattle.slugs.proofs.lists.is_list.Reads as is_list_reads
-use Rattle.slugs.proofs.lists.ask.Kinds as lists_ask_kinds
-use Rattle.slugs.proofs.lists.ask.Reads as lists_ask_reads
+use Rattle.slugs.proofs.lists.check.Kinds as lists_check_kinds
+use Rattle.slugs.proofs.lists.check.Reads as lists_check_reads
 use Rattle.slugs.proofs.lists.put_list.Kinds as put_list_kinds
 use Rattle.slugs.proofs.lists.put_list.Reads as put_list_reads
 use Rattle.slugs.proofs.splitting.split_at.Kinds as split_at_kinds
@@ -57,17 +57,17 @@ all_printable_one κs a z z' ws ws' p q = (meet p q, refl)
 pub has_one : OneOutcome 1 has_kinds.ps has_kinds.r has_reads.Post
 has_one κs a z z' ws ws' p q = (meet p q, refl)
 
-pub keys_ask_one : OneOutcome 1 keys_ask_kinds.ps keys_ask_kinds.r keys_ask_reads.Post
-keys_ask_one κs a z z' ws ws' p q = (meet p q, refl)
+pub keys_check_one : OneOutcome 1 keys_check_kinds.ps keys_check_kinds.r keys_check_reads.Post
+keys_check_one κs a z z' ws ws' p q = (meet p q, refl)
 
-pub values_ask_one : OneOutcome 1 values_ask_kinds.ps values_ask_kinds.r values_ask_reads.Post
-values_ask_one κs a z z' ws ws' p q = (meet p q, refl)
+pub values_check_one : OneOutcome 1 values_check_kinds.ps values_check_kinds.r values_check_reads.Post
+values_check_one κs a z z' ws ws' p q = (meet p q, refl)
 
 pub is_list_one : OneOutcome 1 is_list_kinds.ps is_list_kinds.r is_list_reads.Post
 is_list_one κs a z z' ws ws' p q = (meet p q, refl)
 
-pub lists_ask_one : OneOutcome 2 lists_ask_kinds.ps lists_ask_kinds.r lists_ask_reads.Post
-lists_ask_one κs a z z' ws ws' p q = (meet p q, refl)
+pub lists_check_one : OneOutcome 2 lists_check_kinds.ps lists_check_kinds.r lists_check_reads.Post
+lists_check_one κs a z z' ws ws' p q = (meet p q, refl)
 
 pub put_list_one : OneOutcome 4 put_list_kinds.ps put_list_kinds.r put_list_reads.Post
 put_list_one κs a z z' ws ws' p q = (meet p.place q.place, first (meet p.bytes q.bytes))

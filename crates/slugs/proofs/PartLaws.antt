@@ -1,4 +1,4 @@
--- Laws of a part of a list that is lent and comes back: a run of stores in the part is one in the whole.
+-- Laws of a part of a list that is borrowed and comes back: a run of stores in the part is one in the whole.
 use Prim.Native.Nat.{ℕ, suc, ◌+◌, ◌-◌, ◌≤◌}
 use mathlib.Core.Path.{◌≡◌, sym, ap, ◌∙◌}
 use mathlib.Core.List.{List, [], ◌∷◌, ◌++◌, append-nil}
@@ -21,7 +21,7 @@ sets_within [] y n i h = take-append-drop n y
 sets_within (v ∷ vs) y n i h =
     rw (← take-set-lt n y i v (omega arith), ← drop-set-lt n y i v (omega arith)) (sets_within vs (set y i v) n (suc i) (omega arith))
 
--- what is stored within a part that is lent, is stored in the whole
+-- what is stored within a part that is borrowed, is stored in the whole
 pub part_sets : (a n i : ℕ) (g vs : List ℕ) → i + length vs ≤ n → put_mid a n g (sets (mid_of a n g) i vs) ≡ sets g (a + i) vs
 part_sets a n i g vs h = ap (λ (l : List ℕ). take a g ++ l) (sets_within vs (drop a g) n i h) ∙ sets_from vs g a i
 
@@ -40,7 +40,7 @@ rest_sets a g vs =
     ∙ sets_from vs g a 0
     ∙ ap (λ (k : ℕ). sets g k vs) none
 
--- a run that begins with what stands there
+-- a run that begins with what is there
 pub sets_own_from : (a n : ℕ) (g s : List ℕ) → n ≤ length (drop a g) → sets g a (take n (drop a g) ++ s) ≡ sets g (a + n) s
 sets_own_from a n g s h =
     let none : a + 0 ≡ a = omega arith in

@@ -11,10 +11,10 @@ use Rattle.answers.specs.Pick.{pick}
 use Rattle.slugs.specs.Splitting.{even_after, even_quotes, splits, split_from, split_at}
 
 -- from a text on, with a parity given
-stands : (even : Bool) (s : List ℕ) → split_from even s < length s → splits (even_quotes even (take (split_from even s) s)) (drop (split_from even s) s) ≡ true
+at_split : (even : Bool) (s : List ℕ) → split_from even s < length s → splits (even_quotes even (take (split_from even s) s)) (drop (split_from even s) s) ≡ true
 unfolding split_from even_quotes pick
-stands even [] h = absurd (not-suc-le-zero h)
-stands even (x ∷ xs) h = by (splits even (x ∷ xs)) refl (λ l. stands (even_after even x) xs l) h
+at_split even [] h = absurd (not-suc-le-zero h)
+at_split even (x ∷ xs) h = by (splits even (x ∷ xs)) refl (λ l. at_split (even_after even x) xs l) h
   where
     by : (b : Bool) → splits even (x ∷ xs) ≡ b
         → (split_from (even_after even x) xs < length xs
@@ -47,7 +47,7 @@ within even (x ∷ xs) = by (splits even (x ∷ xs)) (within (even_after even x)
     by false h = omega arith
 
 pub split_here : (s : List ℕ) → split_at s < length s → splits (even_quotes true (take (split_at s) s)) (drop (split_at s) s) ≡ true
-split_here s h = stands true s h
+split_here s h = at_split true s h
 
 pub split_first : (s : List ℕ) (p : ℕ) → p < split_at s → splits (even_quotes true (take p s)) (drop p s) ≡ false
 split_first s p h = none_before true s p h

@@ -26,10 +26,6 @@ pub tag_here : (s : List ℕ) (at : ℕ) → tag_at separator s at ≡ splits tr
 unfolding splits pick
 tag_here s at = let e : at ≡ at + 0 = omega arith in ap (tag_at separator s) e ∙ tag_rest separator s at 0
 
-pub no_split : (s : List ℕ) → false ≡ splits false s
-unfolding splits pick
-no_split s = refl
-
 -- ---- from a place on
 
 module _ (even : Bool) (s : List ℕ) (i : ℕ) where
@@ -67,9 +63,6 @@ plain_run even (suc n) (x ∷ (y ∷ ys)) h q d =
     nothing true false = refl
     nothing false a = refl
 
-pub skips_one : (s : List ℕ) (i : ℕ) → Skips s i 1
-skips_one s i = record { least = omega arith; within = λ h. omega arith; same = λ even. omega arith }
-
 pub skips_many : (s : List ℕ) (i m : ℕ) {q d : Bool} → m ≡ 64 → i + 65 ≤ length s → q ≡ has quote (take m (drop (i + 1) s)) → q ≡ false
     → d ≡ has dash (take m (drop (i + 1) s)) → d ≡ false → Skips s i 64
 skips_many s i m em h eq nq ed nd =
@@ -83,12 +76,11 @@ skips_many s i m em h eq nq ed nd =
           ∙ ap (λ (t : List ℕ). 63 + split_from even t) (drop-drop 63 (i + 1) s ∙ ap (λ (k : ℕ). drop k s) (let e : i + 1 + 63 ≡ i + 64 = omega arith in e));
     }
 
--- ---- what lies four bytes past a place, clipped to the text
+-- ---- what lies past a place, clipped to the text
 
-pub past : (s : List ℕ) (at : ℕ) {from n : ℕ} → from ≡ min at (length s) → n ≡ min 4 (length s - from)
-    → take (length s - (from + n)) (drop (from + n) s) ≡ drop 4 (drop at s)
-past s at {from} {n} ef en = part_end s (from + n) ∙ split (dec_le (at + 4) (length s)) ∙ sym (drop-drop 4 at s)
+pub past : (s : List ℕ) (at : ℕ) {n : ℕ} → n ≡ min at (length s) → take (length s - n) (drop n s) ≡ drop at s
+past s at {n} e = part_end s n ∙ split (dec_le at (length s))
   where
-    split : Dec (at + 4 ≤ length s) → drop (from + n) s ≡ drop (at + 4) s
-    split (yes h) = ap (λ (k : ℕ). drop k s) (let e : from + n ≡ at + 4 = omega arith in e)
-    split (no h) = gone s (from + n) (omega arith) ∙ sym (gone s (at + 4) (omega arith))
+    split : Dec (at ≤ length s) → drop n s ≡ drop at s
+    split (yes h) = ap (λ (k : ℕ). drop k s) (let same : n ≡ at = omega arith in same)
+    split (no h) = gone s n (omega arith) ∙ sym (gone s at (omega arith))

@@ -70,10 +70,6 @@ left_on {first} {whole} {d} {next} {start} {at} {place} {all} s t e a w =
     let still : Stored first start whole (sets d at (s ++ t)) (min (at + length (s ++ t)) (length d)) = rw (← e) w.still in
     record { still = record { bytes = both.bytes ∙ still.bytes; place = both.place ∙ still.place } }
 
--- the buffer is as long as the first
-pub left_long : {first whole d t : List ℕ} {start at : ℕ} → Left first start whole d at t → length d ≡ length first
-left_long {first} {whole} {d} {t} {start} {at} w = sym (length-sets d at t) ∙ ap length w.still.bytes ∙ length-sets first start whole
-
 -- nothing is left
 pub left_none : {first whole d t : List ℕ} {start at next : ℕ} → t ≡ [] → next ≡ min at (length d) → Left first start whole d at t
     → Stored first start whole d next

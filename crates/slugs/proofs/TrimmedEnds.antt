@@ -12,7 +12,7 @@ use Rattle.answers.proofs.BoolLaws.{both_held, hold_both}
 use Rattle.slugs.specs.Bytes.{blank, all_bytes}
 use Rattle.slugs.specs.Trimming.{trim_start, trim_end, before, trim}
 use Rattle.slugs.specs.Trimmed.{Trimmed}
-use Rattle.slugs.proofs.TrimmingLaws.{start_kept, end_kept}
+use Rattle.slugs.proofs.TrimmingLaws.{start_kept, end_kept, end_blanks}
 
 -- ---- trimmed at one end
 
@@ -83,16 +83,6 @@ start_blanks : (a s : List ℕ) → all_bytes blank a ≡ true → trim_start (a
 unfolding trim_start all_bytes pick
 start_blanks [] s e = refl
 start_blanks (x ∷ xs) s e = let both = both_held (blank x) (all_bytes blank xs) e in rw both.0 (start_blanks xs s both.1)
-
-all_blank : (a : List ℕ) → all_bytes blank a ≡ true → trim_end a ≡ []
-unfolding trim_end before all_bytes pick
-all_blank [] e = refl
-all_blank (x ∷ xs) e = let both = both_held (blank x) (all_bytes blank xs) e in rw (all_blank xs both.1, both.0)
-
-end_blanks : (s a : List ℕ) → all_bytes blank a ≡ true → trim_end (s ++ a) ≡ trim_end s
-unfolding trim_end
-end_blanks [] a e = all_blank a e
-end_blanks (x ∷ xs) a e = ap (before x) (end_blanks xs a e)
 
 -- blanks alone are trimmed to nothing; else the text ends the blanks on both sides
 trimmed_text : (t after : List ℕ) → all_bytes blank after ≡ true → (0 < length t → blank (get_or t 0 0) ≡ false)

@@ -1,12 +1,12 @@
 -- Laws of keys and values: what their tests say, and that trimming leaves a key, a mark and values as they are.
-use Prim.Native.Nat.{ℕ, ◌-◌, ◌≤◌, ◌<◌}
+use Prim.Native.Nat.{ℕ, ◌-◌, ◌<◌}
 use mathlib.Core.Path.{◌≡◌, refl, sym, ◌∙◌}
 use mathlib.Core.Bool.{Bool, true, false, ◌&&◌}
 use mathlib.Core.List.{List, [], ◌∷◌, ◌++◌}
 use native.Mathlib.Omega.{arith}
 use lib.Dec.{leb, eqb}
-use lib.ListN.{length, take, drop, get_or}
-use borrow.Author.Tests.{eq-eqb, ne_eqb, le-leb, lt-leb, eqb-true, eqb-false, not-true}
+use lib.ListN.{length, get_or}
+use borrow.Author.Tests.{eqb-true, eqb-false, not-true}
 use Rattle.answers.specs.Pick.{pick}
 use Rattle.answers.specs.Tests.{AllHold}
 use Rattle.answers.proofs.TestsLaws.{hold_left, hold_right}
@@ -20,24 +20,9 @@ use Rattle.slugs.proofs.TrimmingLaws.{start_kept, end_kept, end_append}
 -- ---- quotes
 
 module _ (s : List ℕ) where
-  pub quoted_short : length s < 2 → false ≡ quoted s
-  unfolding quoted
-  quoted_short h = rw (lt-leb 2 (length s) h)
-
-  pub quoted_not : 2 ≤ length s → (get_or s 0 0 ≡ quote → ⊥) → false ≡ quoted s
-  unfolding quoted
-  quoted_not h n = rw (le-leb 2 (length s) h, ne_eqb (get_or s 0 0) quote n)
-
-  pub quoted_last : 2 ≤ length s → get_or s 0 0 ≡ quote → eqb (get_or s (length s - 1) 0) quote ≡ quoted s
-  unfolding quoted
-  quoted_last h e = rw (le-leb 2 (length s) h, eq-eqb (get_or s 0 0) quote e)
-
   pub inner_short : length s < 3 → false ≡ has quote (inner s)
   unfolding has
   inner_short h = let q : length s - 2 ≡ 0 = omega arith in rw q
-
-  pub inner_part : take (length s - 1 - 1) (drop 1 s) ≡ inner s
-  inner_part = let q : length s - 1 - 1 ≡ length s - 2 = omega arith in rw q
 
   quoted_ends : quoted s ≡ true → get_or s (length s - 1) 0 ≡ quote
   unfolding quoted

@@ -1,4 +1,4 @@
--- What is asked of a key.
+-- What a key is checked for.
 use Rattle.std.specs.Prelude.{ℕ, not, List, [], ◌∷◌}
 use Rattle.answers.specs.Tests.{Test}
 use Rattle.answers.specs.declared.Refusal.TheVariants as refusal

@@ -12,7 +12,7 @@ unfoldable pub rising : ℕ → List ℕ → ℕ → Bool
 rising at [] n = eqb at n
 rising at (e ∷ es) n = leb at e && rising e es n
 
--- not asked of an empty list
+-- an empty list is good
 unfoldable pub good_list : List ℕ → ℕ → Bool
 good_list ends n = pick (eqb (length ends) 0) true (rising 0 ends n)
 
@@ -30,7 +30,7 @@ unfoldable pub listed : ℕ → ℕ → List ℕ → List ℕ → List ℕ
 listed mark at [] values = []
 listed mark at (e ∷ es) values = mark ∷ (part at e values ++ listed comma e es values)
 
--- what is asked before the slug: the list, the key, that there is a value, each value in turn
+-- what is checked before the slug: the list, the key, that there is a value, each value in turn
 abbrev pub list_pre : List ℕ → List ℕ → List ℕ → List Test
 list_pre key values ends =
     (good_list ends (length values), refusal.BadList) ∷ (key_tests key ++ ((ltb 0 (length ends), refusal.MissingVal) ∷ list_tests 0 ends values))

@@ -5,7 +5,7 @@ use Rattle.fields.specs.Tags.{tag_at}
 use Rattle.slugs.specs.Bytes.{space, quote, dash}
 use Rattle.slugs.specs.Trimming.{trim}
 
--- space, dash, dash, space: what stands between the boot text and the init text
+-- space, dash, dash, space: what is between the boot text and the init text
 abbrev pub separator : List ℕ
 separator = space ∷ dash ∷ dash ∷ space ∷ []
 
@@ -27,7 +27,7 @@ unfoldable pub split_from : Bool → List ℕ → ℕ
 split_from even [] = 0
 split_from even (x ∷ xs) = pick (splits even (x ∷ xs)) 0 (suc (split_from (even_after even x) xs))
 
--- from a place i, r bytes on: nothing splits between the two, and no quote stands there
+-- from a place i, r bytes on: nothing splits between the two, and no quote is there
 pub record Skips (s : List ℕ) (i r : ℕ) : Type 0 where
   pub least : 1 ≤ r
   pub within : i < length s → i + r ≤ length s

@@ -10,8 +10,8 @@ use fields::copying;
 pub fn put(d: &mut [u8], at: usize, s: &[u8]) -> usize
     ensures { Stored d.old at s.now d.new result }
 {
-    let from = copying::lesser(at, d.len());
-    let count = copying::lesser(s.len(), d.len() - from);
+    let from = at.min(d.len());
+    let count = s.len().min(d.len() - from);
     copying::copy(&mut d[from..], s);
     from + count
 }

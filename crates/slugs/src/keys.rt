@@ -6,18 +6,19 @@
 //
 // SPDX-License-Identifier: Apache-2.0 AND BSD-3-Clause
 //
-// What is asked of a key.
+// What a key is checked for.
 ghost use Rattle.std.specs.Prelude.{◌≡◌};
-ghost use Rattle.answers.specs.Tests.{asked_all};
+ghost use Rattle.answers.specs.Tests.{pass, asked_all};
 ghost use Rattle.slugs.specs.Keys.{key_tests};
 
 use crate::bytes;
-use answers::{Gate, Refusal};
+use answers::Refusal;
 
-pub fn ask(gate: Gate, key: &[u8]) -> Gate
-    ensures { result ≡ asked_all gate (key_tests key.now) }
+#[tactic(auto, unfolding(answers::specs::Pick::pick, answers::specs::Tests::asked, crate::specs::Keys::key_tests))]
+pub fn check(key: &[u8]) -> Result<(), Refusal>
+    ensures { result ≡ asked_all pass (key_tests key.now) }
 {
-    let gate = answers::require(gate, bytes::all_printable(key), Refusal::InvalidAscii);
-    let gate = answers::require(gate, !bytes::has(key, b' '), Refusal::HasSpace);
-    answers::require(gate, !bytes::has(key, b'='), Refusal::HasEquals)
+    answers::require(bytes::all_printable(key), Refusal::InvalidAscii)?;
+    answers::require(!bytes::has(key, b' '), Refusal::HasSpace)?;
+    answers::require(!bytes::has(key, b'='), Refusal::HasEquals)
 }

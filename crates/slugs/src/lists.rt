@@ -6,60 +6,47 @@
 //
 // SPDX-License-Identifier: Apache-2.0 AND BSD-3-Clause
 //
-// A list of values: one buffer, and the list of their ends.
+// A list of values: one buffer, and the list of their ends. Both are passed as the C functions take them, so they stay
+// two slices and no `&[&[u8]]`, which would need memory for the inner slices.
 ghost use Rattle.std.specs.Prelude.{◌≡◌, ◌++◌};
-ghost use Rattle.answers.specs.Tests.{asked_all};
+ghost use Rattle.answers.specs.Tests.{pass, asked_all};
 ghost use Rattle.slugs.specs.Bytes.{equals};
 ghost use Rattle.slugs.specs.Lists.{good_list, part, list_tests, listed};
 ghost use Rattle.slugs.specs.Stored.{Stored};
 ghost use Rattle.slugs.specs.Joining.{space_after};
 
 use crate::{buffers, values};
-use answers::Gate;
-use fields::copying;
+use answers::Refusal;
 
 // No end falls, and the last is the buffer's length; an empty list is good.
 pub fn is_list(ends: &[usize], len: usize) -> bool
     ensures { result ≡ good_list ends.now len }
 {
-    if ends.len() == 0 {
-        return true;
+    match ends.last() {
+        None => true,
+        Some(last) => ends.is_sorted() && *last == len,
     }
-    let mut at = 0;
-    let mut i = 0;
-    while i < ends.len() {
-        if ends[i] < at {
-            return false;
-        }
-        at = ends[i];
-        i += 1;
-    }
-    at == len
 }
 
 // The bytes of the buffer from a place up to an end, as far as it goes.
 fn value_at(values: &[u8], at: usize, end: usize) -> &[u8]
     ensures { result.now ≡ part at end values.now }
 {
-    let to = copying::lesser(end, values.len());
-    let from = copying::lesser(at, to);
+    let to = end.min(values.len());
+    let from = at.min(to);
     &values[from..to]
 }
 
 // Each value in turn.
-pub fn ask(gate: Gate, values: &[u8], ends: &[usize]) -> Gate
-    ensures { result ≡ asked_all gate (list_tests 0 ends.now values.now) }
+pub fn check(values: &[u8], ends: &[usize]) -> Result<(), Refusal>
+    ensures { result ≡ asked_all pass (list_tests 0 ends.now values.now) }
 {
-    let mut gate = gate;
     let mut at = 0;
-    let mut i = 0;
-    while i < ends.len() {
-        let end = ends[i];
-        gate = values::ask(gate, value_at(values, at, end));
-        at = end;
-        i += 1;
+    for end in ends {
+        values::check(value_at(values, at, *end))?;
+        at = *end;
     }
-    gate
+    Ok(())
 }
 
 // An equals sign and the values joined by commas, from a place on; the place after them.
@@ -69,17 +56,13 @@ fn put_values(d: &mut [u8], start: usize, values: &[u8], ends: &[usize]) -> usiz
     let mut place = start;
     let mut mark = b'=';
     let mut at = 0;
-    let mut i = 0;
-    while i < ends.len() {
-        let end = ends[i];
-        let one = [mark];
-        place = buffers::put(d, place, &one);
-        place = buffers::put(d, place, value_at(values, at, end));
+    for end in ends {
+        place = buffers::put(d, place, &[mark]);
+        place = buffers::put(d, place, value_at(values, at, *end));
         mark = b',';
-        at = end;
-        i += 1;
+        at = *end;
     }
-    copying::lesser(place, d.len())
+    place.min(d.len())
 }
 
 // After a text of n bytes: a space if there is text, the key, an equals sign and the values joined by commas.

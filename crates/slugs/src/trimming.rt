@@ -16,28 +16,19 @@ use crate::bytes;
 fn first_place(s: &[u8]) -> usize
     ensures { (result ≤ length s.now) × (drop result s.now ≡ trim_start s.now) }
 {
-    let mut i = 0;
-    while i < s.len() {
-        if !bytes::is_blank(s[i]) {
-            return i;
-        }
-        i += 1;
-    }
-    i
+    s.iter()
+        .position(|byte| !bytes::is_blank(*byte))
+        .unwrap_or(s.len())
 }
 
 // The place after the last byte that is not blank, or 0.
 fn last_place(s: &[u8]) -> usize
     ensures { (result ≤ length s.now) × (take result s.now ≡ trim_end s.now) }
 {
-    let mut end = s.len();
-    while 0 < end {
-        if !bytes::is_blank(s[end - 1]) {
-            return end;
-        }
-        end -= 1;
+    match s.iter().rposition(|byte| !bytes::is_blank(*byte)) {
+        Some(last) => last + 1,
+        None => 0,
     }
-    end
 }
 
 pub fn trimmed(s: &[u8]) -> &[u8]

@@ -6,54 +6,46 @@
 //
 // SPDX-License-Identifier: Apache-2.0 AND BSD-3-Clause
 //
-// What is asked of a value.
+// What a value is checked for.
 ghost use Rattle.std.specs.Prelude.{◌≡◌};
-ghost use Rattle.answers.specs.Tests.{asked_all};
+ghost use Rattle.answers.specs.Tests.{pass, asked_all};
 ghost use Rattle.slugs.specs.Bytes.{quote, has};
 ghost use Rattle.slugs.specs.Values.{quoted, inner, protected, value_tests};
 
 use crate::bytes;
-use answers::{Gate, Refusal};
+use answers::Refusal;
 
 // Two bytes or more, with a quote at each end.
+#[tactic(auto, unfolding(crate::specs::Values::quoted))]
 fn is_quoted(s: &[u8]) -> bool
     ensures { result ≡ quoted s.now }
 {
-    if s.len() < 2 {
-        return false;
-    }
-    if s[0] != b'"' {
-        return false;
-    }
-    s[s.len() - 1] == b'"'
+    matches!(s, [b'"', .., b'"'])
 }
 
 // A quote strictly between the first byte and the last.
 fn contains_double_quotes(s: &[u8]) -> bool
     ensures { result ≡ has quote (inner s.now) }
 {
-    if s.len() < 3 {
-        return false;
+    match s {
+        [_, inner @ .., _] => bytes::has(inner, b'"'),
+        _ => false,
     }
-    let from = 1;
-    let end = s.len() - 1;
-    bytes::has(&s[from..end], b'"')
 }
 
 // No space, or quotes around it.
+#[tactic(auto, unfolding(answers::specs::Pick::pick, crate::specs::Values::protected))]
 fn is_protected(s: &[u8]) -> bool
     ensures { result ≡ protected s.now }
 {
-    if bytes::has(s, b' ') {
-        return is_quoted(s);
-    }
-    true
+    !bytes::has(s, b' ') || is_quoted(s)
 }
 
-pub fn ask(gate: Gate, value: &[u8]) -> Gate
-    ensures { result ≡ asked_all gate (value_tests value.now) }
+#[tactic(auto, unfolding(answers::specs::Pick::pick, answers::specs::Tests::asked, crate::specs::Values::value_tests))]
+pub fn check(value: &[u8]) -> Result<(), Refusal>
+    ensures { result ≡ asked_all pass (value_tests value.now) }
 {
-    let gate = answers::require(gate, bytes::all_printable(value), Refusal::InvalidAscii);
-    let gate = answers::require(gate, !contains_double_quotes(value), Refusal::InvalidQuote);
-    answers::require(gate, is_protected(value), Refusal::NoQuoteSpace)
+    answers::require(bytes::all_printable(value), Refusal::InvalidAscii)?;
+    answers::require(!contains_double_quotes(value), Refusal::InvalidQuote)?;
+    answers::require(is_protected(value), Refusal::NoQuoteSpace)
 }

@@ -14,7 +14,7 @@ use Rattle.words.specs.Readers.{plain_from}
 use Rattle.words.specs.Words.{Word, words_from, words_of, unclosed_of}
 use Rattle.words.specs.Telling.{answer_for}
 use Rattle.words.specs.Inserting.{Insertion, words_at, StandsAs, StandInOrder, all_read, next_read, ReadsBack}
-use Rattle.words.specs.declared.Answer.TheVariants.{Words}
+use Rattle.std.specs.Prelude.{Ok}
 use Rattle.words.proofs.JoinedLaws.{text_of, spaced_out, Goods, none_left, one_more, joined_words, joined_closed, line_snoc}
 
 -- ---- key and value stand at the places of their word
@@ -99,7 +99,7 @@ unfolding words_at
 words_count at [] = refl
 words_count at (x ∷ xs) = ap suc (words_count (suc (at + length (text_of x))) xs)
 
-told_all : (line : List ℕ) (n room : ℕ) → unclosed_of line ≡ length line → length (words_of line) ≡ n → n ≤ room → answer_for line room ≡ Words n
+told_all : (line : List ℕ) (n room : ℕ) → unclosed_of line ≡ length line → length (words_of line) ≡ n → n ≤ room → answer_for line room ≡ Ok n
 unfolding answer_for pick
 told_all line n room c e h = rw (c, le-ltb (length line) (length line) (omega arith), e, le-ltb room n h)
 

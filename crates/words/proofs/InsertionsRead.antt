@@ -1,21 +1,18 @@
 -- For a line made only by accepted `insert` calls, with keys free of quotes and values either free of quotes or of two bytes or more with one
 -- at each end, the words read are the insertions in order, key and value at their places, whatever the capacity: `insertions_read`.
+use Rattle.std.specs.Prelude.{Ok, Err}
 use Prim.Native.Nat.{ℕ}
 use mathlib.Core.Path.{◌≡◌, refl, sym, ap, subst₂, subst⁻¹, ◌∙◌}
 use mathlib.Core.Bool.{false}
 use mathlib.Core.List.{List, [], ◌∷◌, ◌++◌, append_assoc, append-nil}
 use native.Mathlib.Omega.{arith}
 use Rattle.answers.specs.Pick.{pick}
-use Rattle.answers.specs.Tests.{AllHold}
-use Rattle.answers.specs.declared.Gate.{Gate}
-use Rattle.answers.specs.declared.Gate.TheVariants.{Open, Shut}
+use Rattle.answers.specs.Tests.{AllHold, Check, pass}
 use Rattle.answers.proofs.TestsLaws.{open_all, hold_left, hold_right}
 use Rattle.slugs.specs.Bytes.{quote, has}
 use Rattle.slugs.specs.Joining.{joined}
 use Rattle.slugs.specs.Keys.{key_tests}
 use Rattle.slugs.specs.Values.{value_tests, pair}
-use Rattle.cmdline.specs.declared.Answer.{Answer}
-use Rattle.cmdline.specs.declared.Answer.TheVariants.{Accepted}
 use Rattle.cmdline.specs.Calls as Calls
 use Rattle.cmdline.specs.Insertion.{plan_gate, answer_of, settled, insert, insert_str}
 use Rattle.cmdline.specs.Making.{new}
@@ -27,17 +24,17 @@ use Rattle.words.proofs.JoinedLaws.{text_of, Good, Goods, none_left, one_more}
 use Rattle.words.proofs.QuotingLaws.{good}
 use Rattle.words.proofs.InsertedLineLaws.{line_of, line_more, line_reads}
 
-open_of : (g : Gate) → answer_of g ≡ Accepted → g ≡ Open
-open_of Open e = refl
-open_of (Shut r) e = let z : ◌≡◌ {A = ℕ} 0 1 = cc in absurd (omega arith)
+open_of : (g : Check) → answer_of g ≡ pass → g ≡ pass
+open_of (Ok _) e = refl
+open_of (Err r) e = let z : ◌≡◌ {A = ℕ} 0 1 = cc in absurd (omega arith)
 
-first_accepted : {s : Calls.Said} {ss : List Calls.Said} → AllAccepted (s ∷ ss) → s ≡ Calls.answered Accepted
+first_accepted : {s : Calls.Said} {ss : List Calls.Said} → AllAccepted (s ∷ ss) → s ≡ Calls.answered pass
 first_accepted (accepted more) = refl
 
 rest_accepted : {s : Calls.Said} {ss : List Calls.Said} → AllAccepted (s ∷ ss) → AllAccepted ss
 rest_accepted (accepted more) = more
 
-same_answer : {a b : Answer} → Calls.answered a ≡ Calls.answered b → a ≡ b
+same_answer : {a b : Check} → Calls.answered a ≡ Calls.answered b → a ≡ b
 same_answer e = cc
 
 -- what is known of a line between two calls: its texts, and the insertions that it is
@@ -56,7 +53,7 @@ made_start c = record { boot = refl; init = refl; goods = none_left }
 
 -- an accepted insertion
 module _ (xs : List Insertion) (t : Text) (y : Insertion) (m : Made xs t) (k : has quote y.key ≡ false) (v : ValueQuotes y.value)
-    (is_open : plan_gate (insert t y.key y.value) ≡ Open) where
+    (is_open : plan_gate (insert t y.key y.value) ≡ pass) where
   pair_tests : AllHold (key_tests y.key ++ value_tests y.value)
   unfolding insert
   pair_tests =
@@ -75,20 +72,20 @@ module _ (xs : List Insertion) (t : Text) (y : Insertion) (m : Made xs t) (k : h
       }
 
 -- the texts that an accepted call leaves
-settled_open : (g : Gate) (old new : Text) → g ≡ Open → settled g old new ≡ new
+settled_open : (g : Check) (old new : Text) → g ≡ pass → settled g old new ≡ new
 settled_open g old new e = rw e
 
-call_open : (t : Text) (y : Insertion) → (Calls.calling (Calls.inserts y.key y.value) t).said ≡ Calls.answered Accepted
-    → plan_gate (insert t y.key y.value) ≡ Open
+call_open : (t : Text) (y : Insertion) → (Calls.calling (Calls.inserts y.key y.value) t).said ≡ Calls.answered pass
+    → plan_gate (insert t y.key y.value) ≡ pass
 unfolding Calls.calling
 call_open t y e = open_of (plan_gate (insert t y.key y.value)) (same_answer e)
 
-call_text : (t : Text) (y : Insertion) → plan_gate (insert t y.key y.value) ≡ Open
+call_text : (t : Text) (y : Insertion) → plan_gate (insert t y.key y.value) ≡ pass
     → (Calls.calling (Calls.inserts y.key y.value) t).text ≡ (insert t y.key y.value).text
 unfolding Calls.calling
 call_text t y e = settled_open (plan_gate (insert t y.key y.value)) t (insert t y.key y.value).text e
 
-making_text : (c : ℕ) → (Calls.making Calls.makes_new c).said ≡ Calls.answered Accepted → (Calls.making Calls.makes_new c).text ≡ empty c
+making_text : (c : ℕ) → (Calls.making Calls.makes_new c).said ≡ Calls.answered pass → (Calls.making Calls.makes_new c).text ≡ empty c
 unfolding Calls.making new
 making_text c e = settled_open (plan_gate (new c)) (empty 0) (empty c) (open_of (plan_gate (new c)) (same_answer e))
 

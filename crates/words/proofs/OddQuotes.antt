@@ -13,19 +13,19 @@ use Rattle.answers.proofs.PickLaws.{pick_with}
 use Rattle.slugs.specs.Bytes.{quote}
 use Rattle.slugs.specs.Splitting.{even_quotes}
 use Rattle.words.specs.Words.{words_of, unclosed_of}
-use Rattle.words.specs.Telling.{answer_for}
+use Rattle.words.specs.Telling.{Answer, answer_for}
 use Rattle.words.specs.HouseRule.{LastQuote}
-use Rattle.words.specs.declared.Answer.{Answer}
-use Rattle.words.specs.declared.Answer.TheVariants.{Words, UnclosedQuote, TooFewPlaces}
+use Rattle.std.specs.Prelude.{Ok, Err}
+use Rattle.words.specs.declared.ReadError.TheVariants.{UnclosedQuote, TooFewPlaces}
 use Rattle.words.proofs.EndsLaws.{Ends, found, closed, open_here, open_before, plain_ends}
 
 -- 1 of a refusal for an unclosed quote
 abbrev kind : Answer → ℕ
-kind (Words n) = 0
-kind (UnclosedQuote place) = 1
-kind TooFewPlaces = 0
+kind (Ok n) = 0
+kind (Err (UnclosedQuote place)) = 1
+kind (Err TooFewPlaces) = 0
 
-same_place : {a b : ℕ} → UnclosedQuote a ≡ UnclosedQuote b → b ≡ a
+same_place : {a b : ℕ} → ◌≡◌ {A = Answer} (Err (UnclosedQuote a)) (Err (UnclosedQuote b)) → b ≡ a
 same_place e = cc
 
 module _ (line : List ℕ) where
@@ -62,7 +62,7 @@ module _ (line : List ℕ) where
   even_closed even = even_ends ends even
 
   -- so the refusal, whatever room there is
-  pub odd_refused : (room : ℕ) → even_quotes true line ≡ false → (answer_for line room ≡ UnclosedQuote (unclosed_of line)) × LastQuote line (unclosed_of line)
+  pub odd_refused : (room : ℕ) → even_quotes true line ≡ false → (answer_for line room ≡ Err (UnclosedQuote (unclosed_of line))) × LastQuote line (unclosed_of line)
   unfolding answer_for pick
   odd_refused room odd = let l = odd_last odd in (rw (lt-ltb (unclosed_of line) (length line) l.within), l)
 
@@ -77,7 +77,7 @@ module _ (line : List ℕ) where
       rw (even_closed even, le-ltb (length line) (length line) (omega arith))
       (pick_with (λ (t : Answer). kind t ≡ 0) (ltb room (length (words_of line))) (λ e. refl) (λ e. refl))
 
-  pub refused_odd : (room place : ℕ) → answer_for line room ≡ UnclosedQuote place → (even_quotes true line ≡ false) × (place ≡ unclosed_of line)
+  pub refused_odd : (room place : ℕ) → answer_for line room ≡ Err (UnclosedQuote place) → (even_quotes true line ≡ false) × (place ≡ unclosed_of line)
   refused_odd room place told =
       let odd = parity (even_quotes true line) refl (λ even. let z = sym (closed_kind room even) ∙ ap kind told in absurd (omega arith)) in
       (odd, same_place (sym (odd_refused room odd).0 ∙ told))

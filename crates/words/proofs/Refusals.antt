@@ -14,25 +14,25 @@ use lib.ListN.{length}
 use Rattle.answers.specs.Pick.{pick}
 use Rattle.slugs.specs.Splitting.{even_quotes}
 use Rattle.words.specs.Words.{Word, words_of, unclosed_of, WordsWritten}
-use Rattle.words.specs.Telling.{answer_for, stored_of, room_of, ReadsLine, words_number, words_values}
+use Rattle.words.specs.Telling.{Answer, answer_for, stored_of, room_of, ReadsLine, words_number, words_values}
 use Rattle.words.specs.HouseRule.{LastQuote, Parted}
-use Rattle.words.specs.declared.Answer.{Answer}
-use Rattle.words.specs.declared.Answer.TheVariants.{Words, UnclosedQuote, TooFewPlaces}
+use Rattle.std.specs.Prelude.{Ok, Err}
+use Rattle.words.specs.declared.ReadError.TheVariants.{UnclosedQuote, TooFewPlaces}
 use Rattle.words.proofs.OddQuotes.{odd_last, even_closed}
 use Rattle.words.proofs.LaidOut.{words_only}
 
 -- the three ways in which reading ends: what is answered, and the words that are written
 data Case (line : List ℕ) (room : ℕ) : Answer → List Word → Type 0 where
-  unclosed : even_quotes true line ≡ false → LastQuote line (unclosed_of line) → Case line room (UnclosedQuote (unclosed_of line)) []
-  few : even_quotes true line ≡ true → room < length (words_of line) → Case line room TooFewPlaces []
-  all : even_quotes true line ≡ true → length (words_of line) ≤ room → Case line room (Words (length (words_of line))) (words_of line)
+  unclosed : even_quotes true line ≡ false → LastQuote line (unclosed_of line) → Case line room (Err (UnclosedQuote (unclosed_of line))) []
+  few : even_quotes true line ≡ true → room < length (words_of line) → Case line room (Err TooFewPlaces) []
+  all : even_quotes true line ≡ true → length (words_of line) ≤ room → Case line room (Ok (length (words_of line))) (words_of line)
 
 case_of : (line : List ℕ) (room : ℕ) → Case line room (answer_for line room) (stored_of line room)
 unfolding answer_for stored_of pick
 case_of line room = by_quotes (even_quotes true line) refl
   where
     by_room : (t : Bool) → even_quotes true line ≡ true → ltb room (length (words_of line)) ≡ t
-        → Case line room (pick t TooFewPlaces (Words (length (words_of line)))) (pick t [] (words_of line))
+        → Case line room (pick t (Err TooFewPlaces) (Ok (length (words_of line)))) (pick t [] (words_of line))
     by_room true even e = few even (ltb-true room (length (words_of line)) e)
     by_room false even e = all even (ltb-false room (length (words_of line)) e)
 

@@ -8,7 +8,8 @@ use Rattle.answers.specs.Pick.{pick}
 use Rattle.words.specs.Readers.{plain_from}
 use Rattle.words.specs.Words.{words_of, WordsWritten, unclosed_of}
 use Rattle.words.specs.Telling.{answer_for, stored_of}
-use Rattle.words.specs.declared.Answer.TheVariants.{Words, UnclosedQuote, TooFewPlaces}
+use Rattle.std.specs.Prelude.{Ok, Err}
+use Rattle.words.specs.declared.ReadError.TheVariants.{UnclosedQuote, TooFewPlaces}
 
 unclosed_drop : (line : List ℕ) → plain_from 34 (drop 0 line) 0 ≡ unclosed_of line
 unfolding unclosed_of
@@ -18,7 +19,7 @@ module _ (line : List ℕ) (room : ℕ) {u : ℕ} (told : u ≡ plain_from 34 (d
   eu : u ≡ unclosed_of line
   eu = told ∙ unclosed_drop line
 
-  pub unclosed_told : u < length line → UnclosedQuote u ≡ answer_for line room
+  pub unclosed_told : u < length line → Err (UnclosedQuote u) ≡ answer_for line room
   unfolding answer_for pick
   unclosed_told h = rw (sym eu, lt-ltb u (length line) h)
 
@@ -30,7 +31,7 @@ module _ (line : List ℕ) (room : ℕ) {u : ℕ} (told : u ≡ plain_from 34 (d
   unclosed_written {a} {b} {c} h = subst (λ ws. WordsWritten ws 0 a b c a b c) (unclosed_stored h) (record { starts_at = refl; ends_at = refl; splits_at = refl })
 
   module _ (h : length line ≤ u) {n r : ℕ} (en : n ≡ length (words_of line)) (er : r ≡ room) where
-    pub few_told : r < n → TooFewPlaces ≡ answer_for line room
+    pub few_told : r < n → Err TooFewPlaces ≡ answer_for line room
     unfolding answer_for pick
     few_told l = rw (sym eu, le-ltb u (length line) h, sym en, sym er, lt-ltb r n l)
 
@@ -41,7 +42,7 @@ module _ (line : List ℕ) (room : ℕ) {u : ℕ} (told : u ≡ plain_from 34 (d
     pub few_written : {a b c : List ℕ} → r < n → WordsWritten (stored_of line room) 0 a b c a b c
     few_written {a} {b} {c} l = subst (λ ws. WordsWritten ws 0 a b c a b c) (few_stored l) (record { starts_at = refl; ends_at = refl; splits_at = refl })
 
-    pub words_told : n ≤ r → Words n ≡ answer_for line room
+    pub words_told : n ≤ r → Ok n ≡ answer_for line room
     unfolding answer_for pick
     words_told l = rw (sym eu, le-ltb u (length line) h, sym en, sym er, le-ltb r n l)
 

@@ -1,16 +1,17 @@
 -- Laws of the words of a line, turn by turn.
-use Prim.Native.Nat.{ℕ, zero, suc, ◌+◌, ◌≤◌, ◌<◌}
-use mathlib.Core.Path.{◌≡◌, refl, sym, ap, subst, subst⁻¹, ◌∙◌}
-use mathlib.Core.Bool.{true, false}
+use Prim.Native.Nat.{ℕ, zero, suc, ◌+◌, ◌-◌, ◌≤◌, ◌<◌}
+use mathlib.Core.Path.{◌≡◌, refl, sym, ap, subst, ◌∙◌}
+use mathlib.Core.Bool.{Bool, true, false}
 use mathlib.Core.List.{List, [], ◌∷◌}
 use native.Mathlib.Omega.{arith}
-use native.Mathlib.Decide.{ℕ_discrete}
+use native.Mathlib.Decide.{ℕ_discrete, dec_le}
 use borrow.Author.Tests.{eq-eqb, ne_eqb, lt-ltb, le-ltb, eqb-false}
 use lib.Dec.{eqb}
-use lib.ListN.{length, get_or, drop, set, length-drop}
-use lib.Seq.{sets}
+use lib.ListN.{length, get_or, take, drop, set, length-drop}
+use lib.Seq.{sets, get_or-drop}
+use Rattle.slugs.proofs.ListLaws.{part_end}
 use Rattle.answers.specs.Pick.{pick}
-use Rattle.words.specs.Words.{Word, end_of, word_at, words_from, words_of, starts, ends, splits, WordsWritten}
+use Rattle.words.specs.Words.{Word, NextWord, end_of, word_at, words_from, words_on, starts, ends, splits, WordsWritten}
 use Rattle.words.proofs.ReadersLaws.{plain_between, quoted_between, plain_quote, plain_on}
 
 -- not past the end
@@ -51,49 +52,75 @@ module _ (s : List ℕ) (i : ℕ) where
   unfolding words_from pick
   words_word k h n e = rw (lt-ltb i (length s) h, ne_eqb _ _ n, e)
 
--- what is known at a place: it holds of the words from there on
-pub record Going (s : List ℕ) (i : ℕ) (P : List Word → Type 0) : Type 0 where
-  pub turns : ℕ
-  pub enough : length s ≤ i + turns
-  pub rest : P (words_from turns s i)
+-- ---- the words from a place on, in as many turns as reach the end
 
-pub going_start : (s : List ℕ) (P : List Word → Type 0) → P (words_of s) → Going s 0 P
-unfolding words_of
-going_start s P p = record { turns = length s; enough = omega arith; rest = p }
+module _ (s : List ℕ) where
+  -- more turns than enough say the same
+  enough_same : (k m i : ℕ) → length s ≤ i + k → length s ≤ i + m → words_from k s i ≡ words_from m s i
+  enough_same zero m i a b = words_end s i zero (omega arith) ∙ sym (words_end s i m (omega arith))
+  enough_same (suc k) zero i a b = words_end s i (suc k) (omega arith) ∙ sym (words_end s i zero (omega arith))
+  enough_same (suc k) (suc m) i a b = split (dec_le (suc i) (length s)) (ℕ_discrete (get_or s i 0) 32) (eqb (get_or s (end_of s i) 0) 34) refl
+      (λ j h. enough_same k m j (omega arith) (omega arith))
+    where
+      split : Dec (suc i ≤ length s) → Dec (get_or s i 0 ≡ 32) → (q : Bool) → eqb (get_or s (end_of s i) 0) 34 ≡ q
+          → ((j : ℕ) → suc i ≤ j → words_from k s j ≡ words_from m s j) → words_from (suc k) s i ≡ words_from (suc m) s i
+      split (no h) sp q e on = words_end s i (suc k) (omega arith) ∙ sym (words_end s i (suc m) (omega arith))
+      split (yes h) (yes sp) q e on = words_space s i k h sp ∙ on (suc i) (omega arith) ∙ sym (words_space s i m h sp)
+      split (yes h) (no n) true e on = words_unclosed s i k h n e ∙ sym (words_unclosed s i m h n e)
+      split (yes h) (no n) false e on =
+          words_word s i k h n e
+          ∙ ap (λ (ws : List Word). word_at s i (end_of s i) ∷ ws) (on (end_of s i) (stop_ahead s i h n (λ f. eqb-false _ _ e f)))
+          ∙ sym (words_word s i m h n e)
 
-pub going_as : {s : List ℕ} {i : ℕ} {P Q : List Word → Type 0} → ((ws : List Word) → P ws → Q ws) → Going s i P → Going s i Q
-going_as f g = record { turns = g.turns; enough = g.enough; rest = f _ g.rest }
+  turn_on : (i : ℕ) (P : List Word → Type 0) → ((k : ℕ) → length s ≤ suc i + k → P (words_from (suc k) s i)) → P (words_on s i)
+  turn_on i P f = subst P (enough_same (suc (length s)) (length s) i (omega arith) (omega arith)) (f (length s) (omega arith))
 
-module _ (s : List ℕ) (i : ℕ) (P : List Word → Type 0) where
-  pub going_end : length s ≤ i → Going s i P → P []
-  going_end h g = subst P (words_end s i g.turns h) g.rest
+  -- spaces are passed over
+  space_on : (i : ℕ) → i < length s → get_or s i 0 ≡ 32 → words_on s i ≡ words_on s (suc i)
+  space_on i h e =
+      turn_on i (λ ws. ws ≡ words_on s (suc i)) (λ k l. words_space s i k h e ∙ enough_same k (length s) (suc i) (omega arith) (omega arith))
 
-  module _ (h : i < length s) where
-    by_turns : {A : Type 0} → ((k : ℕ) → length s ≤ i + suc k → P (words_from (suc k) s i) → A) → (k : ℕ) → length s ≤ i + k → P (words_from k s i) → A
-    by_turns f zero m p = absurd (omega arith)
-    by_turns f (suc k) m p = f k m p
+  spaces_on : (i n : ℕ) → i + n ≤ length s → ((k : ℕ) → k < n → get_or s (i + k) 0 ≡ 32) → words_on s i ≡ words_on s (i + n)
+  spaces_on i zero h e = ap (λ (k : ℕ). words_on s k) (let z : i ≡ i + 0 = omega arith in z)
+  spaces_on i (suc n) h e =
+      spaces_on i n (omega arith) (λ k l. e k (omega arith))
+      ∙ space_on (i + n) (omega arith) (e n (omega arith))
+      ∙ ap (λ (k : ℕ). words_on s k) (let z : suc (i + n) ≡ i + suc n = omega arith in z)
 
-    pub going_space : get_or s i 0 ≡ 32 → Going s i P → Going s (suc i) P
-    going_space e g =
-        by_turns (λ k m p. record { turns = k; enough = omega arith; rest = subst P (words_space s i k h e) p }) g.turns g.enough g.rest
+  -- a byte of the rest from a place on, as a slice has it
+  pub rest_at : (i k : ℕ) → get_or (take (length s - i) (drop i s)) k 0 ≡ get_or s (i + k) 0
+  rest_at i k = ap (λ (l : List ℕ). get_or l k 0) (part_end s i) ∙ get_or-drop i s k 0
 
-    module _ (n : get_or s i 0 ≡ 32 → ⊥) where
-      closed_on : (stop : ℕ) → stop ≡ end_of s i → eqb (get_or s stop 0) 34 ≡ false → i < end_of s i
-      closed_on stop e q = stop_ahead s i h n (λ f. eqb-false _ _ q (ap (λ (j : ℕ). get_or s j 0) e ∙ f))
+  -- only spaces are left
+  pub no_word : (i n : ℕ) → i + n ≡ length s → ((k : ℕ) → k < n → get_or s (i + k) 0 ≡ 32) → words_on s i ≡ []
+  no_word i n h e = spaces_on i n (omega arith) e ∙ words_end s (i + n) (length s) (omega arith)
 
-      -- the stop as a reader tells it
-      pub ahead : (stop : ℕ) → stop ≡ end_of s i → eqb (get_or s stop 0) 34 ≡ false → i < stop
-      ahead stop e q = let a = closed_on stop e q in omega arith
+  -- a byte that is no space follows n spaces: the word that begins there
+  module _ (i n : ℕ) (within : i + n < length s) (spaces : (k : ℕ) → k < n → get_or s (i + k) 0 ≡ 32) (other : get_or s (i + n) 0 ≡ 32 → ⊥)
+      (stop : ℕ) (reads : stop ≡ end_of s (i + n)) where
+    -- has a quote that none closes
+    pub open_word : eqb (get_or s stop 0) 34 ≡ true → words_on s i ≡ []
+    open_word e =
+        let q = ap (λ (j : ℕ). eqb (get_or s j 0) 34) (sym reads) ∙ e in
+        spaces_on i n (omega arith) spaces
+        ∙ turn_on (i + n) (λ ws. ws ≡ []) (λ k l. words_unclosed s (i + n) k within other q)
 
-      pub going_unclosed : (stop : ℕ) → stop ≡ end_of s i → eqb (get_or s stop 0) 34 ≡ true → Going s i P → P []
-      going_unclosed stop e q g =
-          by_turns (λ k m p. subst P (words_unclosed s i k h n (ap (λ (j : ℕ). eqb (get_or s j 0) 34) (sym e) ∙ q)) p) g.turns g.enough g.rest
-
-      pub going_word : (stop : ℕ) → stop ≡ end_of s i → eqb (get_or s stop 0) 34 ≡ false → Going s i P → Going s stop (λ ws. P (word_at s i stop ∷ ws))
-      going_word stop e q g =
-          let a = closed_on stop e q in
-          subst⁻¹ (λ (j : ℕ). Going s j (λ ws. P (word_at s i j ∷ ws))) e
-          (by_turns (λ k m p. record { turns = k; enough = omega arith; rest = subst P (words_word s i k h n (ap (λ (j : ℕ). eqb (get_or s j 0) 34) (sym e) ∙ q)) p }) g.turns g.enough g.rest)
+    -- or is the next word
+    pub next_is : eqb (get_or s stop 0) 34 ≡ false → NextWord s i (i + n) stop
+    next_is e =
+        let q = ap (λ (j : ℕ). eqb (get_or s j 0) 34) (sym reads) ∙ e in
+        let ahead = stop_ahead s (i + n) within other (λ f. eqb-false _ _ q f) in
+        let inside = stop_within s (i + n) (omega arith) in
+        record {
+          ahead = omega arith;
+          within = omega arith;
+          words =
+              rw reads
+              (spaces_on i n (omega arith) spaces
+              ∙ turn_on (i + n) (λ ws. ws ≡ word_at s (i + n) (end_of s (i + n)) ∷ words_on s (end_of s (i + n)))
+              (λ k l. words_word s (i + n) k within other q
+              ∙ ap (λ (ws : List Word). word_at s (i + n) (end_of s (i + n)) ∷ ws) (enough_same k (length s) (end_of s (i + n)) (omega arith) (omega arith))));
+        }
 
 -- ---- words written into three lists: those still to be written, from n on, make of the lists what all make of them as they were
 
@@ -104,15 +131,3 @@ pub record Stands (all ws : List Word) (n : ℕ) (a₀ b₀ c₀ a b c : List �
 
 pub stands_start : (all : List Word) (a b c : List ℕ) → Stands all all 0 a b c a b c
 stands_start all a b c = record { starts_on = refl; ends_on = refl; splits_on = refl }
-
-module _ {all : List Word} {n : ℕ} {a₀ b₀ c₀ a b c : List ℕ} where
-  pub stands_end : Stands all [] n a₀ b₀ c₀ a b c → WordsWritten all 0 a₀ b₀ c₀ a b c
-  stands_end s = record { starts_at = s.starts_on; ends_at = s.ends_on; splits_at = s.splits_on }
-
-  pub stands_next : (w : Word) (ws : List Word) {a' b' c' : List ℕ} → a' ≡ set a n w.start → b' ≡ set b n w.end → c' ≡ set c n w.split
-      → Stands all (w ∷ ws) n a₀ b₀ c₀ a b c → Stands all ws (suc n) a₀ b₀ c₀ a' b' c'
-  stands_next w ws ea eb ec s = record {
-    starts_on = ap (λ (l : List ℕ). sets l (suc n) (starts ws)) ea ∙ s.starts_on;
-    ends_on = ap (λ (l : List ℕ). sets l (suc n) (ends ws)) eb ∙ s.ends_on;
-    splits_on = ap (λ (l : List ℕ). sets l (suc n) (splits ws)) ec ∙ s.splits_on;
-  }

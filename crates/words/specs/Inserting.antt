@@ -1,13 +1,12 @@
 -- Lines made only by accepted `insert` calls, and how their insertions are read back.
-use Rattle.std.specs.Prelude.{◌≡◌, true, false, List, [], ◌∷◌, map, ℕ, suc, ◌+◌, ◌≤◌, length, get_or}
+use Rattle.answers.specs.Tests.{pass}
+use Rattle.std.specs.Prelude.{◌≡◌, Ok, true, false, List, [], ◌∷◌, map, ℕ, suc, ◌+◌, ◌≤◌, length, get_or}
 use Rattle.slugs.specs.Bytes.{quote, equals, has}
 use Rattle.slugs.specs.Lists.{part}
 use Rattle.slugs.specs.Values.{quoted, pair}
-use Rattle.cmdline.specs.declared.Answer.TheVariants.{Accepted}
 use Rattle.cmdline.specs.Calls as Calls
 use Rattle.words.specs.Words.{Word, words_of, unclosed_of}
 use Rattle.words.specs.Telling.{answer_for}
-use Rattle.words.specs.declared.Answer.TheVariants.{Words}
 
 -- what one insertion is given
 pub record Insertion : Type 0 where
@@ -20,7 +19,7 @@ insertions = map (λ x. Calls.inserts x.key x.value)
 -- no call was refused, the making among them
 pub data AllAccepted : List Calls.Said → Type 0 where
   no_call : AllAccepted []
-  accepted : {said : List Calls.Said} → AllAccepted said → AllAccepted (Calls.answered Accepted ∷ said)
+  accepted : {said : List Calls.Said} → AllAccepted said → AllAccepted (Calls.answered pass ∷ said)
 
 -- a value is free of quotes, or has two bytes or more and a quote at each end
 pub data ValueQuotes (value : List ℕ) : Type 0 where
@@ -56,4 +55,4 @@ pub record ReadsBack (line : List ℕ) (xs : List Insertion) : Type 0 where
   pub closed : unclosed_of line ≡ length line
   pub placed : words_of line ≡ words_at 0 xs
   pub in_order : StandInOrder line (words_of line) xs
-  pub told : (room : ℕ) → length xs ≤ room → answer_for line room ≡ Words (length xs)
+  pub told : (room : ℕ) → length xs ≤ room → answer_for line room ≡ Ok (length xs)

@@ -1,5 +1,5 @@
--- The words of a line, by the house rule.
-use Rattle.std.specs.Prelude.{◌≡◌, List, [], ◌∷◌, map, ℕ, zero, suc, eqb, ltb, length, get_or, take, drop}
+-- The words of a line, by the word rule.
+use Rattle.std.specs.Prelude.{◌≡◌, ◌≤◌, ◌<◌, List, [], ◌∷◌, map, ℕ, zero, suc, eqb, ltb, length, get_or, take, drop}
 use Rattle.std.proofs.lemmas.List.Edits.{sets}
 use Rattle.answers.specs.Pick.{pick}
 use Rattle.slugs.specs.Bytes.{space, quote, equals}
@@ -22,22 +22,34 @@ split_of line at end = plain_from equals (drop at (take end line)) at
 abbrev pub word_at : List ℕ → ℕ → ℕ → Word
 word_at line at end = record { start = at; end = end; split = split_of line at end }
 
--- the words from a place outside quotes on, at most n turns: spaces are passed over, one in a turn, and then there is a word. Where a quote is
--- never closed, the words before it
+-- the words from a place outside quotes on, at most n turns: spaces are passed over, one in a turn, and then there is a
+-- word. Where a quote is never closed, the words before it
 unfoldable pub words_from : ℕ → List ℕ → ℕ → List Word
 words_from zero line at = []
 words_from (suc n) line at =
     pick (ltb at (length line))
     (pick (eqb (get_or line at 0) space)
     (words_from n line (suc at))
-    (pick (eqb (get_or line (end_of line at) 0) quote) [] (word_at line at (end_of line at) ∷ words_from n line (end_of line at))))
+    (pick (eqb (get_or line (end_of line at) 0) quote) []
+    (word_at line at (end_of line at) ∷ words_from n line (end_of line at))))
     []
 
 -- each turn passes a byte or more
 unfoldable pub words_of : List ℕ → List Word
 words_of line = words_from (length line) line 0
 
--- the quote that none closes, or the line's end: a reader that looks for a quote outside quotes finds none, since each opens a stretch
+-- the words from a place outside quotes on, which turns as many as the bytes of the line reach
+abbrev pub words_on : List ℕ → ℕ → List Word
+words_on line at = words_from (length line) line at
+
+-- the words from a place on begin with the word from start up to end
+pub record NextWord (line : List ℕ) (at start end : ℕ) : Type 0 where
+  pub ahead : at < end
+  pub within : end ≤ length line
+  pub words : words_on line at ≡ word_at line start end ∷ words_on line end
+
+-- the quote that none closes, or the line's end: a reader that looks for a quote outside quotes finds none, since each
+-- opens a stretch
 unfoldable pub unclosed_of : List ℕ → ℕ
 unclosed_of line = plain_from quote line 0
 

@@ -16,7 +16,7 @@ returns-then-room-n c =
     let told = c.stop_at-unclosed.ensures in
     let args = c.args in
     let line = args.line.now in
-    let small = c.lesser-room.ensures ∙ ap (min (length args.starts.now)) c.lesser.ensures in
+    let small = c.min-room.ensures ∙ ap (min (length args.starts.now)) c.min.ensures in
     record { answer = few_told line _ told c.if-unclosed-line.false c.count-n.ensures small c.if-room-n.true; written = few_written line _ told c.if-unclosed-line.false c.count-n.ensures small c.if-room-n.true }
 
 pub returns : goal.returns
@@ -24,5 +24,5 @@ returns c =
     let told = c.stop_at-unclosed.ensures in
     let args = c.args in
     let line = args.line.now in
-    let small = c.lesser-room.ensures ∙ ap (min (length args.starts.now)) c.lesser.ensures in
+    let small = c.min-room.ensures ∙ ap (min (length args.starts.now)) c.min.ensures in
     record { answer = words_told line _ told c.if-unclosed-line.false c.count-n.ensures small c.if-room-n.false; written = words_written line _ told c.if-unclosed-line.false c.count-n.ensures small c.if-room-n.false c.write.ensures }

@@ -1,14 +1,26 @@
--- `Cmdline::insert`: the boot buffer as the call in place left it.
-use mathlib.Core.Path.{◌≡◌}
-use lib.ListN.{length}
+-- `Cmdline::insert`: the boot buffer as the call in place leaves it.
+use Rattle.std.proofs.Common.{rules, ◌≡◌, ◌∙◌, length}
+use Rattle.std.specs.Prelude.{Err}
 use Rattle.cmdline.specs.Limit.{limit}
-use Rattle.cmdline.proofs.InPlaceLaws.{pair_replied}
-use borrow.Author.Rules.{rules}
+use Rattle.cmdline.proofs.InPlaceLaws.{unchanged, pair_replied, boot_refused, boot_accepted}
 use Rattle.cmdline.proofs.Cmdline.insert.Goals as goal
 
-pub returns : goal.returns
-returns c =
+pub returns-in_err-lengths-clause-reply : goal.returns-in_err-lengths-clause-reply
+returns-in_err-lengths-clause-reply c =
     let args = c.args in
-    let boot-long : length args.self.boot ≡ limit = search rules in
-    let init-long : length args.self.init ≡ limit = search rules in
-    pair_replied args.self boot-long init-long args.key.now args.value.now c.insert-appended.ensures c.boot_reply.ensures
+    let l = args.self.now in
+    let boot-long : length l.boot ≡ limit = search rules in
+    let init-long : length l.init ≡ limit = search rules in
+    let same : c.from_residual.result ≡ Err c.in_err-lengths.field-0.0 = search rules in
+    let w = rw (c.lengths-lengths.ensures, c.in_err-lengths.was) at c.insert.ensures in
+    rw same (boot_refused l (unchanged w) (pair_replied l boot-long init-long args.key.now args.value.now w))
+
+pub returns-clause-reply : goal.returns-clause-reply
+returns-clause-reply c =
+    let args = c.args in
+    let l = args.self.now in
+    let boot-long : length l.boot ≡ limit = search rules in
+    let init-long : length l.init ≡ limit = search rules in
+    let w = rw (c.lengths-lengths.ensures, c.in_ok-lengths.was) at c.insert.ensures in
+    let reply = boot_accepted l c.in_ok-lengths.field-0 (pair_replied l boot-long init-long args.key.now args.value.now w) in
+    (reply.0, (rw c.lengths-lengths.ensures at c.set_lengths.ensures) ∙ reply.1)

@@ -1,22 +1,24 @@
 -- `device::put_size`: the first unit that divides decides.
-use mathlib.Core.Path.{sym}
+use Rattle.std.proofs.Common.{refl, arith}
 use Rattle.slugs.proofs.StoredLaws.{stored_as, then}
-use Rattle.cmdline.proofs.DeviceLaws.{size_G, size_K, size_M, size_plain}
+use Rattle.cmdline.proofs.DeviceLaws.{none_yet, none_more, size_unit, size_bare}
 use Rattle.cmdline.proofs.device.put_size.Goals as goal
 
-pub returns-then-size-eq0 : goal.returns-then-size-eq0
-returns-then-size-eq0 c =
-    stored_as (sym (size_G c.args.size c.if-size-eq0.true)) (then c.put_number-end.ensures c.put.ensures)
+pub loop-unit-init : goal.loop-unit-init
+loop-unit-init c = (refl, none_yet c.args.size)
 
-pub returns-then-size-eq0-2 : goal.returns-then-size-eq0-2
-returns-then-size-eq0-2 c =
-    stored_as (sym (size_M c.args.size c.if-size-eq0.false c.if-size-eq0-2.true)) (then c.put_number-end-then-size-eq0-2.ensures c.put-then-size-eq0-2.ensures)
+pub returns-then-size-unit-eq0 : goal.returns-then-size-unit-eq0
+returns-then-size-unit-eq0 c =
+    let turn = c.loop-unit in
+    stored_as (size_unit c.args.size turn.unit-index c.loop-unit-test.true turn.invariant.1 c.if-size-unit-eq0.true)
+    (then (rw turn.invariant.0 at c.put_decimal-end.ensures) c.put.ensures)
 
-pub returns-then-size-eq0-3 : goal.returns-then-size-eq0-3
-returns-then-size-eq0-3 c =
-    let size = c.args.size in
-    stored_as (sym (size_K size c.if-size-eq0.false c.if-size-eq0-2.false c.if-size-eq0-3.true)) (then c.put_number-end-then-size-eq0-3.ensures c.put-then-size-eq0-3.ensures)
+pub loop-unit-preserved : goal.loop-unit-preserved
+loop-unit-preserved c =
+    let turn = c.loop-unit in
+    (turn.invariant.0, none_more c.args.size turn.unit-index (omega arith) c.loop-unit-test.true turn.invariant.1 c.if-size-unit-eq0.false)
 
 pub returns : goal.returns
 returns c =
-    stored_as (sym (size_plain c.args.size c.if-size-eq0.false c.if-size-eq0-2.false c.if-size-eq0-3.false)) c.put_number.ensures
+    let end = c.loop-unit in
+    stored_as (size_bare c.args.size end.unit-index c.loop-unit-test.false end.invariant.1) (rw end.invariant.0 at c.put_decimal.ensures)

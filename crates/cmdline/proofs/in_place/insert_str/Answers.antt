@@ -1,13 +1,11 @@
--- `in_place::insert_str`: the trimmed slug is asked, then appended.
-use Prim.Native.Nat.{min}
+-- `in_place::insert_str`: a slug with the room of the boot text.
+use Rattle.std.proofs.Common.{min}
 use Rattle.cmdline.specs.Limit.{limit}
-use Rattle.cmdline.proofs.InPlaceLaws.{str_appends}
+use Rattle.cmdline.proofs.InPlaceLaws.{slug_boot}
 use Rattle.cmdline.proofs.in_place.insert_str.Goals as goal
 
 pub returns : goal.returns
 returns c =
-    let args = c.args in
-    let trimmed = c.trimmed-s in
-    str_appends args.slug.now trimmed.result.now (min args.boots limit) (min args.inits limit) (min args.capacity limit)
-    trimmed.ensures c.all_printable.ensures c.require-gate.ensures c.boot_room-room.ensures c.require-gate-2.ensures
-    c.buffer_room-room.ensures c.require-gate-3.ensures c.lesser.ensures c.append_slug.ensures
+    let room = c.boot_room.ensures in
+    slug_boot (min c.args.lengths.boot_len limit) (min c.args.lengths.init_len limit) (min c.args.lengths.capacity limit) c.args.slug.now c.args.boot.now
+    room.text room.size room.capacity c.append_slug.ensures

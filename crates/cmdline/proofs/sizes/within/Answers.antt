@@ -1,5 +1,5 @@
 -- `sizes::within`: the test of a range is the test of its sum.
-use mathlib.Core.Path.{◌∙◌}
+use Rattle.std.proofs.Common.{◌∙◌}
 use Rattle.fields.proofs.RangesLaws.{within_test}
 use Rattle.cmdline.proofs.sizes.within.Goals as goal
 

@@ -1,36 +1,34 @@
--- `writing::same_whole`: the bytes before i are the same, so the rest decides.
-use mathlib.Core.Path.{◌∙◌, refl, sym}
-use native.Mathlib.Omega.{arith}
-use Rattle.cmdline.specs.Writing.{whole_line}
-use Rattle.cmdline.proofs.WritingLaws.{same_end, same_lengths, same_on, same_stop}
+-- `writing::same_whole`: texts of different sizes differ; the two chains give the whole texts.
+use Rattle.std.proofs.Common.{◌≡◌, ◌-◌, ◌^◌, ◌∙◌, ◌++◌, refl, ap}
+use Rattle.std.specs.Slice.Iter.{iter_rest}
+use Rattle.cmdline.specs.Writing.{same_bytes, whole_line}
+use Rattle.cmdline.proofs.WritingLaws.{sizes_differ, chained, same_from_eq, whole_parts}
 use Rattle.cmdline.proofs.writing.same_whole.Goals as goal
 
-pub returns-then-n-whole_len : goal.returns-then-n-whole_len
-returns-then-n-whole_len c =
+pub returns-then-size : goal.returns-then-size
+returns-then-size c =
     let args = c.args in
-    sym (same_lengths (whole_line args.boot.now args.init.now) (whole_line args.boot2.now args.init2.now)
-    (λ e. c.if-n-whole_len.true (c.whole_len-n.ensures ∙ e ∙ sym c.whole_len.ensures)))
-
-pub loop-i-init : goal.loop-i-init
-loop-i-init c = (omega arith, c.whole_len-n.ensures, c.if-n-whole_len.false ∙ c.whole_len.ensures, refl)
-
-pub returns-then-byte_at : goal.returns-then-byte_at
-returns-then-byte_at c =
-    let args = c.args in
-    let at_turn = c.loop-i in
-    sym (at_turn.invariant.3 ∙ same_stop (whole_line args.boot.now args.init.now) (whole_line args.boot2.now args.init2.now) at_turn.i (omega arith) (omega arith)
-    (λ e. c.if-byte_at.true (c.byte_at.ensures ∙ e ∙ sym c.byte_at-in-loop-i.ensures)))
-
-pub loop-i-preserved : goal.loop-i-preserved
-loop-i-preserved c =
-    let args = c.args in
-    let at_turn = c.loop-i in
-    let same = sym c.byte_at.ensures ∙ c.if-byte_at.false ∙ c.byte_at-in-loop-i.ensures in
-    let on = same_on (whole_line args.boot.now args.init.now) (whole_line args.boot2.now args.init2.now) at_turn.i (omega arith) (omega arith) same in
-    (omega arith, at_turn.invariant.1, at_turn.invariant.2, at_turn.invariant.3 ∙ on)
+    sizes_differ args.boot.now args.init.now args.boot2.now args.init2.now (2 ^ 64 - 1) c.size.ensures c.size-2.ensures c.if-size.true
 
 pub returns : goal.returns
 returns c =
-    let args = c.args in
-    let at-end = c.loop-i in
-    sym (at-end.invariant.3 ∙ same_end (whole_line args.boot.now args.init.now) (whole_line args.boot2.now args.init2.now) at-end.i (omega arith) (omega arith))
+    let boot = c.args.boot.now in
+    let init = c.args.init.now in
+    let boot2 = c.args.boot2.now in
+    let init2 = c.args.init2.now in
+    let start = c.chain.ensures in
+    let all = c.chain-whole.ensures in
+    let start2 = c.chain-2.ensures in
+    let all2 = c.chain-3.ensures in
+    let whole =
+    chained boot c.separator.result.now init all.first (ap iter_rest start.first ∙ c.iter.ensures.rest) start.second.0 start.first_done start.second_done
+    all.second.0 all.first_done all.second_done in
+    let whole2 =
+    chained boot2 c.separator-2.result.now init2 all2.first (ap iter_rest start2.first ∙ c.iter-2.ensures.rest) start2.second.0 start2.first_done
+    start2.second_done all2.second.0 all2.first_done all2.second_done in
+    let same = same_from_eq (λ x y. y ≡ x) _ c.eq.result c.eq.ensures.ran whole (λ it e. rw e whole2) (λ x y. refl) in
+    same
+    ∙ ap (λ s. same_bytes ((boot ++ s) ++ init) ((boot2 ++ c.separator-2.result.now) ++ init2)) c.separator.ensures
+    ∙ ap (λ s. same_bytes s ((boot2 ++ c.separator-2.result.now) ++ init2)) (whole_parts boot init)
+    ∙ ap (λ s. same_bytes (whole_line boot init) ((boot2 ++ s) ++ init2)) c.separator-2.ensures
+    ∙ ap (λ s. same_bytes (whole_line boot init) s) (whole_parts boot2 init2)

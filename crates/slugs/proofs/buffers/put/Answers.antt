@@ -5,4 +5,4 @@ use Rattle.slugs.proofs.buffers.put.Goals as goal
 pub returns : goal.returns
 returns c =
     let args = c.args in
-    stored_part args.d.now args.s.now args.at c.lesser-from.ensures c.copy.ensures c.lesser-count.ensures
+    stored_part args.d.now args.s.now args.at c.min-from.ensures c.copy.ensures c.min-count.ensures

@@ -1,31 +1,21 @@
--- `lists::is_list`: the ends before i rise to the place, so the rest decides.
-use mathlib.Core.Path.{◌∙◌, refl, sym}
-use native.Mathlib.Omega.{arith}
-use Rattle.slugs.proofs.ListsLaws.{list_none, list_some, rise_end, rise_on, rise_stop}
+-- `lists::is_list`: sorted ends rise, and then the last one decides.
+use Rattle.std.proofs.Common.{arith, rules, ◌∙◌, ◌≡◌, length, ◌<◌, ◌-◌, get_or, ap, false}
+use Rattle.std.specs.Prelude.{nat_eq}
+use Rattle.std.proofs.lemmas.List.Sorted.{non_decreasing_from_is_sorted}
+use Rattle.slugs.proofs.ListsLaws.{list_none, list_sorted, list_fallen}
 use Rattle.slugs.proofs.lists.is_list.Goals as goal
 
-pub returns-then-ends-eq0 : goal.returns-then-ends-eq0
-returns-then-ends-eq0 c = list_none c.args.ends.now c.args.len c.if-ends-eq0.true
+pub returns-in-None : goal.returns-in-None
+returns-in-None c = list_none c.args.ends.now c.args.len (grind arith)
 
-pub loop-i-init : goal.loop-i-init
-loop-i-init c = (omega arith, refl)
+pub returns-then-is_sorted : goal.returns-then-is_sorted
+returns-then-is_sorted c =
+    let ends = c.args.ends.now in
+    let some : 0 < length ends = search rules in
+    let last : c.in-Some.last.now ≡ get_or ends (length ends - 1) 0 = search rules in
+    ap (λ n. nat_eq n c.args.len) last ∙ list_sorted ends c.args.len some (λ k h. search rules)
 
-pub returns-then-ends-i : goal.returns-then-ends-i
-returns-then-ends-i c =
-    let args = c.args in
-    let at_turn = c.loop-i in
-    let stop = rise_stop args.ends.now at_turn.at args.len at_turn.i (omega arith) c.if-ends-i.true in
-    sym (at_turn.invariant.1 ∙ stop) ∙ list_some args.ends.now args.len c.if-ends-eq0.false
-
-pub loop-i-preserved : goal.loop-i-preserved
-loop-i-preserved c =
-    let args = c.args in
-    let at_turn = c.loop-i in
-    (omega arith, at_turn.invariant.1 ∙ rise_on args.ends.now at_turn.at args.len at_turn.i (omega arith) c.if-ends-i.false)
-
-pub returns : goal.returns
-returns c =
-    let args = c.args in
-    let at-end = c.loop-i in
-    let stop = rise_end args.ends.now at-end.at args.len at-end.i c.loop-i-test.false in
-    sym (at-end.invariant.1 ∙ stop) ∙ list_some args.ends.now args.len c.if-ends-eq0.false
+pub returns-else-is_sorted : goal.returns-else-is_sorted
+returns-else-is_sorted c =
+    let fall = non_decreasing_from_is_sorted c.args.ends.now false ((c.if-is_sorted.ensures {u = tt}).cases) in
+    c.if-is_sorted.false ∙ list_fallen c.args.ends.now c.args.len fall.0 fall.1 (fall.2 0)

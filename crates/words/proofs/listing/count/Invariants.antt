@@ -1,13 +1,10 @@
--- `listing::count`: the words counted and those from i on are all of them.
-use Prim.Native.Nat.{◌+◌, ◌-◌, ◌≤◌}
-use mathlib.Core.Path.{◌≡◌}
-use lib.ListN.{length}
-use Rattle.words.specs.Words.{words_of}
-use Rattle.words.proofs.WordsLaws.{Going}
+-- `listing::count`: the words counted and those from here on are all of them.
+use Rattle.std.proofs.Common.{◌≡◌, ◌+◌, ◌-◌, ◌≤◌, length}
+use Rattle.words.specs.Words.{words_on, words_of}
 use Rattle.words.proofs.listing.count.Given as goal
 
-abbrev pub invariant-loop-i : goal.invariant-loop-i
-invariant-loop-i l = (l.n ≤ l.i) × (l.i ≤ length l.line) × Going l.line l.i (λ ws. l.n + length ws ≡ length (words_of l.line))
+abbrev pub invariant-loop-word : goal.invariant-loop-word
+invariant-loop-word l = (l.n ≤ l.at) × (l.at ≤ length l.line) × (l.n + length (words_on l.line l.at) ≡ length (words_of l.line))
 
-abbrev pub decreases-loop-i : goal.decreases-loop-i
-decreases-loop-i l = length l.line - l.i
+abbrev pub decreases-loop-word : goal.decreases-loop-word
+decreases-loop-word l = length l.line - l.at
