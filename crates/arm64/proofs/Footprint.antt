@@ -1,5 +1,6 @@
 -- "Two images of one length that hold the same bytes in the header have the same plan": the same answer and the same part, whatever the rest of either
 -- image holds. So a caller may plan with those bytes only, and copy the part from the whole image (`loads`, Footprint).
+use Rattle.std.specs.Prelude.{Err}
 use Prim.Native.Nat.{ℕ, ◌+◌, ◌≤◌}
 use mathlib.Core.Path.{◌≡◌}
 use mathlib.Core.List.{List}
@@ -12,7 +13,6 @@ use Rattle.arm64.specs.Footprint.{looked_at, SameFootprint}
 use Rattle.arm64.specs.Image.{text_offset, image_size}
 use Rattle.arm64.specs.Plan.{tests, image_plan, plan_of}
 use Rattle.arm64.specs.Parts.{part_of}
-use Rattle.guest.specs.declared.Answer.TheVariants.{Refused}
 
 module _ (s t : List ℕ) (same : SameFootprint s t) where
   -- a field of the header
@@ -33,7 +33,7 @@ module _ (s t : List ℕ) (same : SameFootprint s t) where
     loaded_same = rw (offset_same, size_same)
 
     pub plan_same : (plan_of s m base).answer ≡ (plan_of t m base).answer
-    plan_same = answer_same Refused (image_plan s base) (image_plan t base) tests_same loaded_same
+    plan_same = answer_same Err (image_plan s base) (image_plan t base) tests_same loaded_same
 
     pub part_same : part_of s base ≡ part_of t base
     unfolding part_of

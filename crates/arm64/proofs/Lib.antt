@@ -1,5 +1,4 @@
 pub mod PlanLaws
-pub mod MemoryLaws
 pub mod FileWritten
 pub mod Refusals
 pub mod MoreMemory

@@ -1,12 +1,12 @@
 -- "Over a good map 87 alone may lift with more guest memory": where memory grows, within the limit and while the old map and the new are valid
 -- ones, the plan is the same, or it refused with NoRoomForImage. What this says of a load is in `loads` (MoreMemory).
+use Rattle.std.specs.Prelude.{Err}
 use Prim.Native.Nat.{ℕ}
 use mathlib.Core.Path.{◌≡◌, refl}
 use mathlib.Core.List.{List}
 use lib.ListN.{length}
 use Rattle.answers.specs.Keeping.{Keeps, same}
 use Rattle.answers.proofs.KeepingLaws.{Widens, end, stays, grows, widens_append, widens_same}
-use Rattle.guest.specs.declared.Answer.TheVariants.{Refused}
 use Rattle.guest.specs.declared.Memory.{Memory}
 use Rattle.guest.specs.Maps.{good_map}
 use Rattle.guest.specs.Room.{Grows}
@@ -24,5 +24,5 @@ module _ (s : List ℕ) (m m' : Memory) (base : ℕ) (more : Grows m m') (both :
       (λ _. widens_append ForRoom (widens_same ForRoom (image_tests s base))
       (λ _. grows (more.rooms (start_of s base) (length s)) refl (λ _. stays refl (λ _. end))))
 
-  pub plan_keeps : Keeps (LiftPlan Refused ForRoom) (plan_of s m base) (plan_of s m' base)
-  plan_keeps = behind_keeps Refused ForRoom rows_widen (λ _. same)
+  pub plan_keeps : Keeps (LiftPlan Err ForRoom) (plan_of s m base) (plan_of s m' base)
+  plan_keeps = behind_keeps Err ForRoom rows_widen (λ _. same)

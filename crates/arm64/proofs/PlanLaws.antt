@@ -1,42 +1,30 @@
 -- Laws of the plan, which the functions' proofs and the theorems cite.
-use Prim.Native.Nat.{ℕ, ◌+◌, ◌<◌, ◌^◌}
-use mathlib.Core.Path.{◌≡◌, refl, sym, ◌∙◌, ap, subst, subst⁻¹}
-use mathlib.Core.Bool.{true, false}
+use Rattle.std.specs.Prelude.{Ok, Err}
+use Rattle.guest.specs.Answers.{Answer}
+use Prim.Native.Nat.{ℕ}
+use mathlib.Core.Path.{◌≡◌, sym, ◌∙◌, ap, subst, subst⁻¹}
+use mathlib.Core.Bool.{true}
 use mathlib.Core.List.{List, ◌++◌, append-nil}
 use native.Mathlib.Omega.{arith}
 use lib.ListN.{length}
 use lib.Seq.{take_all}
 use Rattle.answers.specs.Pick.{pick}
-use Rattle.answers.specs.Tests.{Test, asked_all, AllHold, FirstFails}
+use Rattle.answers.specs.Tests.{Test, AllHold, FirstFails}
 use Rattle.answers.specs.declared.Refusal.{Refusal}
-use Rattle.answers.specs.declared.Gate.{Gate}
-use Rattle.answers.specs.declared.Gate.TheVariants.{Open, Shut}
-use Rattle.answers.proofs.TestsLaws.{open_all, hold_left, hold_right}
-use Rattle.fields.specs.Ranges.{fits64, top64}
-use Rattle.fields.proofs.RangesLaws.{within_sum, sum_within, sum_beyond, beyond_sum}
+use Rattle.answers.proofs.TestsLaws.{hold_left, hold_right}
+use Rattle.fields.specs.Ranges.{fits64}
+use Rattle.fields.proofs.RangesLaws.{sum_within}
 use Rattle.guest.specs.declared.Memory.{Memory}
-use Rattle.guest.specs.declared.Part.{Part}
 use Rattle.guest.specs.Lent.{lent_tests}
 use Rattle.guest.specs.Loading.{Plan, refused_plan}
-use Rattle.guest.specs.Parts.{no_part, Fits, part_stream, parts_from}
+use Rattle.guest.specs.Parts.{Fits, part_stream, parts_from}
 use Rattle.guest.specs.Room.{room}
 use Rattle.guest.specs.Stream.{bytes_at, stream_at}
-use Rattle.guest.proofs.RoomLaws.{room_beyond}
-use Rattle.guest.proofs.LoadingLaws.{tests_open, tests_shut, all_planned, first_planned, behind_with}
-use Rattle.guest.specs.declared.Answer.{Answer}
-use Rattle.guest.specs.declared.Answer.TheVariants.{Loaded, Refused}
+use Rattle.guest.proofs.LoadingLaws.{all_planned, first_planned, behind_with}
 use Rattle.guest.specs.declared.KernelLoaderResult.{KernelLoaderResult}
-use Rattle.arm64.specs.Image.{text_offset, image_size, start_of, end_of}
+use Rattle.arm64.specs.Image.{text_offset, start_of}
 use Rattle.arm64.specs.Plan.{image_tests, place_tests, tests, loaded_as, image_plan, plan_of}
 use Rattle.arm64.specs.Parts.{whole_file, part_of}
-
--- ---- sums that wrap: they have no room, and no further sum fits
-
-pub wrapped_no_room : (m : Memory) (a b n : ℕ) → m.size < 2 ^ 64 → fits64 a b ≡ false → room m (a + b) n ≡ false
-wrapped_no_room m a b n small e = let over = beyond_sum top64 a b e in room_beyond m (a + b) n (omega arith)
-
-pub wrapped_no_end : (a b c : ℕ) → fits64 a b ≡ false → fits64 (a + b) c ≡ false
-wrapped_no_end a b c e = let over = beyond_sum top64 a b e in sum_beyond top64 (a + b) c (omega arith)
 
 -- ---- the tests and the plan behind them
 
@@ -56,37 +44,25 @@ module _ (s : List ℕ) (m : Memory) (base : ℕ) where
       let own = hold_left (image_tests s base) (place_tests s m base) (hold_right (lent_tests (length s) m) (image_tests s base ++ place_tests s m base) hold) in
       own.1.1.1.1.1.0
 
-  pub hold_end : AllHold row → end_of s base < 2 ^ 64
-  hold_end hold = let sum = within_sum top64 (start_of s base) (image_size s) (hold_place hold).1.0 in omega arith
-
-  pub open_end : {gate : Gate} → gate ≡ asked_all Open row → gate ≡ Open → end_of s base < 2 ^ 64
-  open_end eg e = hold_end (open_all row (sym eg ∙ e))
-
-  pub plan_open : {gate : Gate} → gate ≡ asked_all Open row → gate ≡ Open → plan_of s m base ≡ image_plan s base
-  plan_open eg e = tests_open Refused row (image_plan s base) (sym eg ∙ e)
-
-  pub plan_shut : {gate : Gate} {refusal : Refusal} → gate ≡ asked_all Open row → gate ≡ Shut refusal → plan_of s m base ≡ refused_plan Refused refusal
-  plan_shut eg e = tests_shut Refused row (image_plan s base) (sym eg ∙ e)
-
   -- a plan, by its answer: one that loads passed all tests, and one that refuses failed one
-  pub plan_loaded : {k : KernelLoaderResult} → (plan_of s m base).answer ≡ Loaded k → AllHold row × (k ≡ loaded_as s base)
+  pub plan_loaded : {k : KernelLoaderResult} → (plan_of s m base).answer ≡ Ok k → AllHold row × (k ≡ loaded_as s base)
   plan_loaded {k} =
-      behind_with Refused row (image_plan s base) (λ p. p.answer ≡ Loaded k → AllHold row × (k ≡ loaded_as s base))
+      behind_with Err row (image_plan s base) (λ p. p.answer ≡ Ok k → AllHold row × (k ≡ loaded_as s base))
       (λ hold e. let same : ◌≡◌ {A = KernelLoaderResult} (loaded_as s base) k = cc in (hold, sym same))
       (λ r fails e. let z : ◌≡◌ {A = ℕ} 0 1 = cc in absurd (omega arith))
 
-  pub plan_refused : {refusal : Refusal} → (plan_of s m base).answer ≡ Refused refusal → FirstFails refusal row
+  pub plan_refused : {refusal : Refusal} → (plan_of s m base).answer ≡ Err refusal → FirstFails refusal row
   plan_refused {refusal} =
-      behind_with Refused row (image_plan s base) (λ p. p.answer ≡ Refused refusal → FirstFails refusal row)
+      behind_with Err row (image_plan s base) (λ p. p.answer ≡ Err refusal → FirstFails refusal row)
       (λ hold e. let z : ◌≡◌ {A = ℕ} 0 1 = cc in absurd (omega arith))
       (λ r fails e. let same : ◌≡◌ {A = Refusal} r refusal = cc in subst (λ x. FirstFails x row) same fails)
 
   -- the whole plan of one that loads, and of one that refuses
-  pub loaded_plan : {k : KernelLoaderResult} → (plan_of s m base).answer ≡ Loaded k → plan_of s m base ≡ image_plan s base
-  loaded_plan e = all_planned Refused row (image_plan s base) (plan_loaded e).0
+  pub loaded_plan : {k : KernelLoaderResult} → (plan_of s m base).answer ≡ Ok k → plan_of s m base ≡ image_plan s base
+  loaded_plan e = all_planned Err row (image_plan s base) (plan_loaded e).0
 
-  pub refused_plan_lem : {refusal : Refusal} → (plan_of s m base).answer ≡ Refused refusal → plan_of s m base ≡ refused_plan Refused refusal
-  refused_plan_lem e = first_planned Refused row (image_plan s base) (plan_refused e)
+  pub refused_plan_lem : {refusal : Refusal} → (plan_of s m base).answer ≡ Err refusal → plan_of s m base ≡ refused_plan Err refusal
+  refused_plan_lem e = first_planned Err row (image_plan s base) (plan_refused e)
 
 -- ---- the file's bytes
 
@@ -94,22 +70,12 @@ module _ (s : List ℕ) (m : Memory) (base : ℕ) where
 pub all_bytes : (s : List ℕ) → bytes_at s 0 (length s) ≡ s
 all_bytes s = take_all (length s) s (omega arith)
 
--- ---- the file as a part, by an offset that was read
-
-pub part_none : (s : List ℕ) (base : ℕ) {offset : ℕ} {r : Part} → offset ≡ text_offset s → fits64 base offset ≡ false → r ≡ no_part → r ≡ part_of s base
-unfolding part_of pick
-part_none s base eo e er = er ∙ rw (sym (ap (fits64 base) eo) ∙ e)
-
-pub part_whole : (s : List ℕ) (base : ℕ) {offset : ℕ} → offset ≡ text_offset s → fits64 base offset ≡ true
-    → record { address = record { 0 = base + offset }; place = record { 0 = 0 }; size = length s } ≡ part_of s base
-unfolding part_of pick
-part_whole s base eo e = rw (sym (ap (fits64 base) eo) ∙ e, eo)
-
 -- ---- of an accepted load the file fits, and is what is written
 
-module _ (s : List ℕ) (m : Memory) (base : ℕ) {k : KernelLoaderResult} (is : (plan_of s m base).answer ≡ Loaded k) where
+module _ (s : List ℕ) (m : Memory) (base : ℕ) {k : KernelLoaderResult} (is : (plan_of s m base).answer ≡ Ok k) where
   part_is : part_of s base ≡ whole_file s base
-  part_is = sym (part_whole s base refl (hold_start s m base (plan_loaded s m base is).0))
+  unfolding part_of pick
+  part_is = rw (hold_start s m base (plan_loaded s m base is).0)
 
   pub part_fits : Fits (length s) m (part_of s base)
   part_fits =

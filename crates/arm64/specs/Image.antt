@@ -1,6 +1,9 @@
 -- The arm64 Image of the Linux boot document: a header of 64 bytes at the start of the file, which goes to guest memory with the rest of it.
-use Rattle.std.specs.Prelude.{ℕ, ◌+◌, List}
+use Rattle.std.specs.Prelude.{ℕ, ◌+◌, List, Option, Some, None}
+use Rattle.answers.specs.Pick.{pick}
 use Rattle.fields.specs.Numbers.{le}
+use Rattle.fields.specs.Ranges.{fits64}
+use Rattle.guest.specs.declared.GuestAddress.{GuestAddress}
 
 abbrev pub header_size : ℕ
 header_size = 64
@@ -32,3 +35,7 @@ start_of image base = base + text_offset image
 
 abbrev pub end_of : List ℕ → ℕ → ℕ
 end_of image base = start_of image base + image_size image
+
+-- where the file goes, if that is a number of 64 bits
+unfoldable pub start_in : List ℕ → ℕ → Option GuestAddress
+start_in image base = pick (fits64 base (text_offset image)) (Some (record { 0 = start_of image base })) None

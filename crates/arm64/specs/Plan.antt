@@ -1,5 +1,6 @@
 -- The plan of a load: the tests in their order, the answer, and the file that is written.
-use Rattle.std.specs.Prelude.{ℕ, ◌%◌, ◌≡◌, List, [], ◌∷◌, ◌++◌, leb, ltb, eqb, length}
+use Rattle.guest.specs.Answers.{Answer}
+use Rattle.std.specs.Prelude.{ℕ, ◌%◌, ◌≡◌, List, [], ◌∷◌, ◌++◌, leb, ltb, eqb, length, Ok, Err}
 use Rattle.answers.specs.Tests.{Test}
 use Rattle.answers.specs.declared.Refusal.{Refusal}
 use Rattle.answers.specs.declared.Refusal.TheVariants.{ShortImage, BadImageMagic, BigEndianImage, NoImageSize, UnalignedBase, ImageStartWraps, NoRoomForImage, ImageEndWraps}
@@ -10,8 +11,6 @@ use Rattle.guest.specs.Lent.{lent_tests}
 use Rattle.guest.specs.Loading.{Plan, Loads, behind_tests}
 use Rattle.guest.specs.Room.{room, memory_of}
 use Rattle.guest.specs.Stream.{stream_at}
-use Rattle.guest.specs.declared.Answer.{Answer}
-use Rattle.guest.specs.declared.Answer.TheVariants.{Loaded, Refused}
 use Rattle.guest.specs.declared.KernelLoaderResult.{KernelLoaderResult}
 use Rattle.guest.specs.declared.PvhBootCapability.TheVariants.{PvhEntryIgnored}
 use Rattle.arm64.specs.Image.{header_size, text_offset, image_size, flags, magic, the_magic, alignment, start_of, end_of}
@@ -51,10 +50,10 @@ loaded_as image base =
 
 -- the whole file is written
 abbrev pub image_plan : List ℕ → ℕ → Plan Answer
-image_plan image base = record { answer = Loaded (loaded_as image base); stream = stream_at (start_of image base) image }
+image_plan image base = record { answer = Ok (loaded_as image base); stream = stream_at (start_of image base) image }
 
 abbrev pub plan_of : List ℕ → Memory → ℕ → Plan Answer
-plan_of image m base = behind_tests Refused (tests image m base) (image_plan image base)
+plan_of image m base = behind_tests Err (tests image m base) (image_plan image base)
 
 -- the one refusal that more guest memory may lift
 abbrev pub ForRoom : Refusal → Type 0

@@ -1,5 +1,8 @@
 -- The sentence "the image bytes from the setup size on are the kernel, copied to the load address, all else untouched": after an accepted
 -- load each byte of guest memory is the kernel's byte that covers it, or as it was.
+use Rattle.std.specs.Prelude.{Ok, Option}
+use Rattle.guest.specs.declared.GuestAddress.{GuestAddress}
+use Rattle.guest.specs.Answers.{Answer}
 use Prim.Native.Nat.{ℕ, ◌+◌, ◌<◌}
 use mathlib.Core.Path.{◌≡◌, sym, ◌∙◌, ap}
 use mathlib.Core.Bool.{true}
@@ -7,15 +10,12 @@ use mathlib.Core.List.{List}
 use native.Mathlib.Omega.{arith}
 use lib.ListN.{length, get_or}
 use lib.Seq.{get_or-drop}
-use Rattle.guest.specs.declared.Given.{Given}
 use Rattle.guest.specs.declared.Map.{Map}
 use Rattle.guest.specs.Loading.{Plan}
 use Rattle.guest.specs.Room.{room, memory_of}
 use Rattle.guest.specs.Stream.{pour, Stands}
 use Rattle.guest.proofs.StreamLaws.{poured_stands}
-use Rattle.guest.specs.declared.Answer.TheVariants.{Loaded}
 use Rattle.guest.specs.declared.KernelLoaderResult.{KernelLoaderResult}
-use Rattle.guest.specs.declared.Answer.{Answer}
 use Rattle.bzimage.specs.Copied.{Copied}
 use Rattle.bzimage.specs.Kernel.{setup_size, kernel_of}
 use Rattle.bzimage.specs.Plan.{plan_of, KernelLoads}
@@ -40,11 +40,11 @@ stands_copied s address stands =
 
 -- ---- of the load's contract
 
-module _ (image : List ℕ) (offset highmem : Given) (map : Map) (guest : List ℕ) {r : Answer} {after : List ℕ} (loads : KernelLoads image offset highmem map guest r after) where
+module _ (image : List ℕ) (offset highmem : Option GuestAddress) (map : Map) (guest : List ℕ) {r : Answer} {after : List ℕ} (loads : KernelLoads image offset highmem map guest r after) where
   planned : (plan_of image (memory_of guest map) offset highmem).answer ≡ r
   planned = sym loads.answer
 
-  pub accepted_copies : {k : KernelLoaderResult} → r ≡ Loaded k → Copied image k.kernel_load.0 guest after
+  pub accepted_copies : {k : KernelLoaderResult} → r ≡ Ok k → Copied image k.kernel_load.0 guest after
   accepted_copies {k} e =
       let loaded = plan_loaded image (memory_of guest map) offset highmem (planned ∙ e) in
       let len = length_kernel image in

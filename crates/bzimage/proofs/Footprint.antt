@@ -1,5 +1,7 @@
 -- "Two images of one length that hold the same bytes in the setup header have the same plan": the same answer, the same setup header and the same
 -- part, whatever the rest of either image holds. So a caller may plan with those bytes only, and copy the part from the whole image (`loads`, Footprint).
+use Rattle.std.specs.Prelude.{Ok, Err, Option}
+use Rattle.guest.specs.declared.GuestAddress.{GuestAddress}
 use Prim.Native.Nat.{ℕ, zero, suc, ◌+◌, ◌≤◌}
 use mathlib.Core.Path.{◌≡◌, refl, ap}
 use mathlib.Core.List.{List}
@@ -8,7 +10,6 @@ use Rattle.fields.specs.Agreement.{Agree}
 use Rattle.fields.specs.Numbers.{le}
 use Rattle.fields.proofs.AgreementLaws.{agree_within, agree_le}
 use Rattle.guest.specs.Addresses.{given_or}
-use Rattle.guest.specs.declared.Given.{Given}
 use Rattle.guest.specs.declared.Memory.{Memory}
 use Rattle.guest.proofs.LoadingLaws.{answer_same}
 use Rattle.bzimage.specs.Footprint.{SameFootprint}
@@ -17,7 +18,6 @@ use Rattle.bzimage.specs.Kernel.{sectors_of, setup_size, kernel_size, start_of, 
 use Rattle.bzimage.specs.Plan.{tests, loaded_as, kernel_plan, plan_of}
 use Rattle.bzimage.specs.SetupHeader.{header_start, header_size, setup_sects, header_magic, version, loadflags, code32_start}
 use Rattle.bzimage.specs.Parts.{part_of}
-use Rattle.guest.specs.declared.Answer.TheVariants.{Loaded, Refused}
 
 bytes_same : (s t : List ℕ) (n p : ℕ) → Agree s t p n → bytes_from n s p ≡ bytes_from n t p
 unfolding bytes_from
@@ -49,7 +49,7 @@ module _ (s t : List ℕ) (same : SameFootprint s t) where
 
   -- ---- the plan
 
-  module _ (m : Memory) (offset highmem : Given) where
+  module _ (m : Memory) (offset highmem : Option GuestAddress) where
     tests_same : tests s m offset highmem ≡ tests t m offset highmem
     tests_same =
         rw (
@@ -69,7 +69,7 @@ module _ (s t : List ℕ) (same : SameFootprint s t) where
     loaded_same = rw (size_same, load_same)
 
     pub plan_same : (plan_of s m offset highmem).answer ≡ (plan_of t m offset highmem).answer
-    plan_same = answer_same Refused (kernel_plan s (load_of s offset)) (kernel_plan t (load_of t offset)) tests_same (ap Loaded loaded_same)
+    plan_same = answer_same Err (kernel_plan s (load_of s offset)) (kernel_plan t (load_of t offset)) tests_same (ap Ok loaded_same)
 
     pub part_same : part_of s offset ≡ part_of t offset
     part_same = rw (start_same, setup_same, size_same)

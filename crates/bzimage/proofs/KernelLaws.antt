@@ -1,34 +1,17 @@
 -- Laws of the kernel's size and bytes, and of a field that is read at a place of the table.
 use Prim.Native.Nat.{ℕ, ◌+◌, ◌<◌}
-use mathlib.Core.Path.{◌≡◌, sym, ◌∙◌, ap}
+use mathlib.Core.Path.{◌≡◌, ◌∙◌, ap}
 use mathlib.Core.List.{List}
 use native.Mathlib.Omega.{arith}
-use native.Mathlib.Nat.{add-zero}
-use borrow.Author.Tests.{eq-eqb, ne_eqb}
 use lib.ListN.{length, take, drop, length-drop}
 use lib.Seq.{take_all}
-use Rattle.answers.specs.Pick.{pick}
 use Rattle.fields.specs.Numbers.{le, ReadAs}
 use Rattle.guest.specs.Stream.{bytes_at}
-use Rattle.bzimage.specs.SetupHeader.{setup_sects}
-use Rattle.bzimage.specs.Kernel.{sectors_of, Sectors, setup_size, kernel_of, kernel_size}
+use Rattle.bzimage.specs.Kernel.{setup_size, kernel_of, kernel_size}
 
 -- a field of n bytes, read at a place p that is its own
 pub field_read : {n p v : ℕ} (q : ℕ) (s : List ℕ) → p ≡ q → ReadAs n s p v → v ≡ le n s q
 field_read {n} q s e r = r.value ∙ ap (le n s) e
-
--- a field of one byte, read as the byte 0 after its place
-pub byte_read : {p v : ℕ} (q : ℕ) (s : List ℕ) → p ≡ q → ReadAs 1 s (p + 0) v → v ≡ le 1 s q
-byte_read {p} q s e r = field_read q s (add-zero p ∙ e) r
-
--- the sectors, where the image says 0 and where it says some
-pub sectors_none : {v : ℕ} (s : List ℕ) → v ≡ le 1 s setup_sects → v ≡ 0 → Sectors s 4
-unfolding sectors_of pick
-sectors_none s e z = record { value = rw (eq-eqb (le 1 s setup_sects) 0 (sym e ∙ z)); small = omega arith }
-
-pub sectors_some : {v : ℕ} (s : List ℕ) → v ≡ le 1 s setup_sects → v < 256 → (v ≡ 0 → ⊥) → Sectors s v
-unfolding sectors_of pick
-sectors_some s e small n = record { value = rw (ne_eqb (le 1 s setup_sects) 0 (λ z. n (e ∙ z))) e; small = small }
 
 -- the kernel has the kernel's size
 pub length_kernel : (s : List ℕ) → length (kernel_of s) ≡ kernel_size s

@@ -1,13 +1,13 @@
 -- "More room never turns one answer into another", of a bzImage: where memory grows, within the limit and while the old map and the new are valid
 -- ones, the plan is the same, or it refused with ReadBzImageCompressedKernel. What this says of a load is in `loads` (MoreMemory).
+use Rattle.std.specs.Prelude.{Err, Option}
+use Rattle.guest.specs.declared.GuestAddress.{GuestAddress}
 use Prim.Native.Nat.{ℕ}
 use mathlib.Core.Path.{◌≡◌, refl}
 use mathlib.Core.List.{List}
 use lib.ListN.{length}
 use Rattle.answers.specs.Keeping.{Keeps, same}
 use Rattle.answers.proofs.KeepingLaws.{Widens, end, grows, widens_append, widens_same}
-use Rattle.guest.specs.declared.Answer.TheVariants.{Refused}
-use Rattle.guest.specs.declared.Given.{Given}
 use Rattle.guest.specs.declared.Memory.{Memory}
 use Rattle.guest.specs.Maps.{good_map}
 use Rattle.guest.specs.Room.{Grows}
@@ -16,9 +16,9 @@ use Rattle.guest.proofs.RoomLaws.{lent_stays}
 use Rattle.guest.proofs.LoadingLaws.{LiftPlan, behind_keeps}
 use Rattle.bzimage.specs.Kernel.{kernel_size, load_of}
 use Rattle.bzimage.specs.Plan.{image_tests, tests, plan_of, ForRoom}
-use Rattle.bzimage.proofs.PlanLaws.{room_for_grows}
+use Rattle.guest.proofs.RoomLaws.{room_for_grows}
 
-module _ (s : List ℕ) (m m' : Memory) (offset highmem : Given) (more : Grows m m') (both : allowed m'.size ≡ allowed m.size)
+module _ (s : List ℕ) (m m' : Memory) (offset highmem : Option GuestAddress) (more : Grows m m') (both : allowed m'.size ≡ allowed m.size)
     (maps : good_map m'.size m'.map ≡ good_map m.size m.map) where
   rows_widen : Widens ForRoom (tests s m offset highmem) (tests s m' offset highmem)
   rows_widen =
@@ -26,5 +26,5 @@ module _ (s : List ℕ) (m m' : Memory) (offset highmem : Given) (more : Grows m
       (λ _. widens_append ForRoom (widens_same ForRoom (image_tests s highmem))
       (λ _. grows (room_for_grows m m' (load_of s offset).0 (kernel_size s) more) refl (λ _. end)))
 
-  pub plan_keeps : Keeps (LiftPlan Refused ForRoom) (plan_of s m offset highmem) (plan_of s m' offset highmem)
-  plan_keeps = behind_keeps Refused ForRoom rows_widen (λ _. same)
+  pub plan_keeps : Keeps (LiftPlan Err ForRoom) (plan_of s m offset highmem) (plan_of s m' offset highmem)
+  plan_keeps = behind_keeps Err ForRoom rows_widen (λ _. same)

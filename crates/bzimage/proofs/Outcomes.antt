@@ -25,7 +25,7 @@ place_one κs a z z' ws ws' p q = (ap (λ n. record { 0 = n }) (meet p q), refl)
 pub header_with_one : OneOutcome 1 header_with_kinds.ps header_with_kinds.r header_with_reads.Post
 header_with_one κs a z z' ws ws' p q = (meet p q, refl)
 
-pub parts_plan_one : OneOutcome 1 parts_plan_kinds.ps parts_plan_kinds.r parts_plan_reads.Post
+pub parts_plan_one : OneOutcome 2 parts_plan_kinds.ps parts_plan_kinds.r parts_plan_reads.Post
 parts_plan_one κs a z z' ws ws' p q = (meet p q, refl)
 
 pub parts_part_one : OneOutcome 1 parts_part_kinds.ps parts_part_kinds.r parts_part_reads.Post

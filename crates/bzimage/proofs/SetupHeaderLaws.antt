@@ -2,11 +2,12 @@
 -- it, and the sizes sum to 123.
 use mathlib.Core.Path.{◌≡◌, refl, ap, sym, ◌∙◌}
 use mathlib.Core.List.{List, [], ◌∷◌, ◌++◌}
-use Prim.Native.Nat.{ℕ, zero, suc, ◌+◌, ◌≤◌, min}
+use Prim.Native.Nat.{ℕ, zero, suc, ◌+◌, ◌≤◌, ◌<◌, min}
 use native.Mathlib.Omega.{arith}
 use native.Mathlib.Decide.{dec_le}
-use lib.ListN.{length, get_or, take}
-use lib.Seq.{take_all}
+use native.Mathlib.Numerals.{add-one}
+use lib.ListN.{length, get_or, take, length-take}
+use lib.Seq.{take_all, get_or-take}
 use Rattle.bzimage.specs.SetupHeader.{header_size, sizes, total, place_of, header_start, protocol_places, setup_sects, header_magic, version, loadflags, code32_start}
 
 -- ---- any table
@@ -110,3 +111,25 @@ place_small field h =
     let whole = ap total (take_all 39 sizes (omega arith)) ∙ sum_123 in
     let grows = total_grows field 39 sizes h in
     omega arith
+
+-- ---- the sizes before a field, one after the other
+
+module _ (n i : ℕ) {at v : ℕ} (below : i < length (take n sizes)) (here : at ≡ place_of i) (size : v ≡ get_or (take n sizes) i 0) where
+  pub place_step : at + v ≡ place_of (i + 1)
+  place_step =
+      let len = length-take n sizes in
+      let own = get_or-take n sizes i 0 (omega arith) in
+      let next = place_next i in
+      rw add-one (omega arith)
+
+  pub step_small : at + v ≤ header_start + header_size
+  step_small =
+      let len = length-take n sizes in
+      let m = many in
+      let whole = place_small (i + 1) (omega arith) in
+      let step = place_step in
+      omega arith
+
+-- all of them
+pub place_end : (field : ℕ) {n i : ℕ} → n ≡ min field 39 → i ≡ length (take n sizes) → place_of i ≡ place_of field
+place_end field {n} {i} en ei = place_clipped field (let len = length-take n sizes in let m = many in omega arith)

@@ -1,8 +1,7 @@
 -- The kernel: where it lies in the image, and where it goes.
-use Rattle.std.specs.Prelude.{ℕ, ◌+◌, ◌*◌, ◌-◌, ◌<◌, ◌≡◌, List, eqb, length, drop}
+use Rattle.std.specs.Prelude.{ℕ, ◌+◌, ◌*◌, ◌-◌, ◌<◌, ◌≡◌, List, eqb, length, drop, Option}
 use Rattle.answers.specs.Pick.{pick}
 use Rattle.fields.specs.Numbers.{le}
-use Rattle.guest.specs.declared.Given.{Given}
 use Rattle.guest.specs.declared.GuestAddress.{GuestAddress}
 use Rattle.guest.specs.Addresses.{given_or}
 use Rattle.bzimage.specs.SetupHeader.{setup_sects, code32_start}
@@ -33,5 +32,5 @@ unfoldable pub start_of : List ℕ → GuestAddress
 start_of image = record { 0 = le 4 image code32_start }
 
 -- the load address: the offset if given, else code32_start
-abbrev pub load_of : List ℕ → Given → GuestAddress
+abbrev pub load_of : List ℕ → Option GuestAddress → GuestAddress
 load_of image offset = given_or offset (start_of image)

@@ -1,11 +1,11 @@
 -- What a setup header says to a boot loader, by the Linux x86 boot protocol.
-use Rattle.std.specs.Prelude.{ℕ, suc, ◌+◌, ◌-◌, ◌%◌, ◌≤◌, ◌<◌, min, max, ◌≡◌, Bool, ◌&&◌, List, leb, eqb}
+use Rattle.guest.specs.declared.GuestAddress.{GuestAddress}
+use Rattle.std.specs.Prelude.{ℕ, suc, ◌+◌, ◌-◌, ◌%◌, ◌≤◌, ◌<◌, min, max, ◌≡◌, Bool, ◌&&◌, List, leb, eqb, Option}
 use Rattle.answers.specs.Pick.{pick}
 use Rattle.fields.specs.Numbers.{le}
 use Rattle.fields.specs.Ranges.{top64}
 use Rattle.guest.specs.Extents.{no_extent}
 use Rattle.guest.specs.declared.Extent.{Extent}
-use Rattle.guest.specs.declared.Given.{Given}
 use Rattle.bzimage.specs.Kernel.{load_of}
 use Rattle.bzimage.specs.SetupHeader.{version}
 
@@ -72,7 +72,7 @@ runtime_start image load =
     (aligned_up (max (le 4 image kernel_alignment) 1) (max load (le 8 image pref_address)))
 
 -- the memory that the kernel needs while it starts: none is known before protocol 2.10
-unfoldable pub runtime_memory : List ℕ → Given → Extent
+unfoldable pub runtime_memory : List ℕ → Option GuestAddress → Extent
 runtime_memory image offset =
     pick (leb 0x20A (le 2 image version))
     (record { at = record { 0 = runtime_start image (load_of image offset).0 }; size = le 4 image init_size })

@@ -16,12 +16,13 @@ use fields::{copying, numbers};
 use guest::GuestAddress;
 
 // The header as it is read, bytes past the image as 0, with the load address's low 32 bits in `code32_start`.
+#[tactic(auto, using(crate::proofs::SetupHeaderLaws::at_setup_sects, crate::proofs::SetupHeaderLaws::at_code32_start))]
 pub fn header_with(image: &[u8], load: GuestAddress) -> [u8; 123]
     ensures { result ≡ header_of image.now load.0 }
 {
     let mut header = [0u8; 123];
     let first = setup_header::place(setup_header::SETUP_SECTS).0;
-    let from = copying::lesser(first as usize, image.len());
+    let from = (first as usize).min(image.len());
     copying::copy(&mut header, &image[from..]);
     let at = setup_header::place(setup_header::CODE32_START).0 - first;
     numbers::put_le(&mut header, at, 4, load.0);

@@ -9,13 +9,14 @@
 
 // What an image says of its kernel: where it lies in the image, and where it goes.
 ghost use Rattle.std.specs.Prelude.{◌≡◌};
-ghost use Rattle.bzimage.specs.Kernel.{Sectors, setup_size, kernel_size, start_of};
+ghost use Rattle.bzimage.specs.Kernel.{Sectors, setup_size, kernel_size, start_of, load_of};
 
 use crate::setup_header;
 use fields::numbers;
 use guest::GuestAddress;
 
 // The sectors of the setup. An image that says 0 means 4.
+#[tactic(auto, unfolding(answers::specs::Pick::pick, crate::specs::Kernel::sectors_of), using(crate::proofs::SetupHeaderLaws::at_setup_sects))]
 fn sectors(image: &[u8]) -> u64
     ensures { Sectors image.now result }
 {
@@ -24,6 +25,7 @@ fn sectors(image: &[u8]) -> u64
 }
 
 // The setup's size: its sectors and the boot sector.
+#[tactic(auto, unfolding(crate::specs::Kernel::setup_size))]
 pub(crate) fn setup_size(image: &[u8]) -> u64
     ensures { result ≡ setup_size image.now }
 {
@@ -31,20 +33,25 @@ pub(crate) fn setup_size(image: &[u8]) -> u64
 }
 
 // The kernel's size: what the image has after its setup.
+#[tactic(auto, unfolding(crate::specs::Kernel::kernel_size))]
 pub(crate) fn kernel_size(image: &[u8]) -> u64
     ensures { result ≡ kernel_size image.now }
 {
-    let len = image.len() as u64;
-    let setup = setup_size(image);
-    if len < setup {
-        return 0;
-    }
-    len - setup
+    (image.len() as u64).saturating_sub(setup_size(image))
 }
 
 // The address at which the image would be loaded, as its header says.
+#[tactic(auto, unfolding(crate::specs::Kernel::start_of), using(crate::proofs::SetupHeaderLaws::at_code32_start))]
 pub(crate) fn code32_start(image: &[u8]) -> GuestAddress
     ensures { result ≡ start_of image.now }
 {
     GuestAddress(numbers::read_u32(image, setup_header::place(setup_header::CODE32_START).0))
+}
+
+// The load address: the offset, if it is given, else the header's.
+#[tactic(auto, unfolding(guest::specs::Addresses::given_or))]
+pub(crate) fn load_address(image: &[u8], offset: Option<GuestAddress>) -> GuestAddress
+    ensures { result ≡ load_of image.now offset }
+{
+    offset.unwrap_or(code32_start(image))
 }

@@ -6,7 +6,7 @@
 // found in the NOTICE file.
 //
 // SPDX-License-Identifier: Apache-2.0 AND BSD-3-Clause
-#![tactic(auto)]
+#![tactic(auto, unfolding(answers::specs::Pick::pick, answers::specs::Tests::asked))]
 
 // Big zImage (bzImage) kernels: the plan of a load, made of the image, the memory and the options only, its one part,
 // the kernel, and the setup header that goes with it. The crate `loads` copies the part.

@@ -7,33 +7,25 @@
 //
 // SPDX-License-Identifier: Apache-2.0 AND BSD-3-Clause
 
-// The plan of a load: the tests in their order, and the answer.
+// The plan of a load: the tests in their order, and what it returns.
 ghost use Rattle.std.specs.Prelude.{◌≡◌};
-ghost use Rattle.bzimage.specs.Plan.{room_for, tests, plan_of};
-ghost use Rattle.answers.specs.Tests.{asked_all};
-ghost use Rattle.answers.specs.declared.Gate.TheVariants.{Open};
+ghost use Rattle.bzimage.specs.Plan.{tests, plan_of};
+ghost use Rattle.answers.specs.Tests.{pass, asked_all};
 
 use crate::{kernel, setup_header};
-use answers::{Gate, Refusal};
+use answers::Refusal;
 use fields::numbers;
-use guest::{
-    Answer, Given, GuestAddress, KernelLoaderResult, Memory, PvhBootCapability, addresses, lent,
-    room,
-};
+use guest::{GuestAddress, KernelLoaderResult, Memory, PvhBootCapability, addresses, lent, room};
 
-// Is there room for n bytes at an address? For none there always is.
-fn room_for(memory: Memory, address: GuestAddress, n: u64) -> bool
-    ensures { result ≡ room_for memory address.0 n }
-{
-    if n == 0 {
-        return true;
-    }
-    room::has_room(memory, address, n)
-}
-
-// The tests. Every reading is total, so no test guards another.
-fn validate(image: &[u8], memory: Memory, offset: Given, highmem: Given) -> Gate
-    ensures { result ≡ asked_all Open (tests image.now memory offset highmem) }
+// The tests. Each reading is total, so no test depends on one before it.
+#[tactic(auto, using(crate::proofs::SetupHeaderLaws::at_header, crate::proofs::SetupHeaderLaws::at_version, crate::proofs::SetupHeaderLaws::at_loadflags), unfolding(answers::specs::Pick::pick, answers::specs::Tests::asked, guest::specs::Addresses::given_or))]
+fn validate(
+    image: &[u8],
+    memory: &Memory,
+    offset: Option<GuestAddress>,
+    highmem: Option<GuestAddress>,
+) -> Result<(), Refusal>
+    ensures { result ≡ asked_all pass (tests image.now memory.now offset highmem) }
 {
     let len = image.len() as u64;
     let magic = numbers::read_u32(image, setup_header::place(setup_header::HEADER).0);
@@ -41,37 +33,37 @@ fn validate(image: &[u8], memory: Memory, offset: Given, highmem: Given) -> Gate
     let flags = numbers::byte_at(image, setup_header::place(setup_header::LOADFLAGS).0, 0);
     let setup = kernel::setup_size(image);
     let start = kernel::code32_start(image);
-    let load = addresses::given_or(offset, start);
-    let room = room_for(memory, load, kernel::kernel_size(image));
-    let gate = lent::ask(len, memory);
-    let gate = answers::require(gate, magic == 0x5372_6448, Refusal::InvalidBzImage);
-    let gate = answers::require(gate, 0x200 <= version, Refusal::InvalidBzImage);
-    let gate = answers::require(gate, flags % 2 == 1, Refusal::InvalidBzImage);
-    let gate = answers::require(gate, setup <= len, Refusal::Underflow);
-    let gate = answers::require(
-        gate,
+    let load = offset.unwrap_or(start);
+    let room = room::room_for(memory, load, kernel::kernel_size(image));
+    lent::ask(len, memory)?;
+    answers::require(magic == 0x5372_6448, Refusal::InvalidBzImage)?;
+    answers::require(0x200 <= version, Refusal::InvalidBzImage)?;
+    answers::require(flags % 2 == 1, Refusal::InvalidBzImage)?;
+    answers::require(setup <= len, Refusal::Underflow)?;
+    answers::require(
         addresses::amount(highmem) <= start.0,
         Refusal::InvalidKernelStartAddress,
-    );
-    answers::require(gate, room, Refusal::ReadBzImageCompressedKernel)
+    )?;
+    answers::require(room, Refusal::ReadBzImageCompressedKernel)
 }
 
-// What a load into a memory answers.
-pub(crate) fn plan_load(image: &[u8], memory: Memory, offset: Given, highmem: Given) -> Answer
-    ensures { result ≡ (plan_of image.now memory offset highmem).answer }
+// What a load into a memory returns.
+#[tactic(auto, unfolding(guest::specs::Loading::behind_tests), using(crate::proofs::PlanLaws::open_end))]
+pub(crate) fn plan_load(
+    image: &[u8],
+    memory: &Memory,
+    offset: Option<GuestAddress>,
+    highmem: Option<GuestAddress>,
+) -> Result<KernelLoaderResult, Refusal>
+    ensures { result ≡ (plan_of image.now memory.now offset highmem).answer }
 {
-    let gate = validate(image, memory, offset, highmem);
-    match gate {
-        Gate::Shut(refusal) => Answer::Refused(refusal),
-        Gate::Open => {
-            let load = addresses::given_or(offset, kernel::code32_start(image));
-            let bytes = kernel::kernel_size(image);
-            let end = load.0 + bytes;
-            Answer::Loaded(KernelLoaderResult {
-                kernel_load: load,
-                kernel_end: GuestAddress(end),
-                pvh_boot_cap: PvhBootCapability::PvhEntryIgnored,
-            })
-        }
-    }
+    validate(image, memory, offset, highmem)?;
+    let load = kernel::load_address(image, offset);
+    let bytes = kernel::kernel_size(image);
+    let end = load.0 + bytes;
+    Ok(KernelLoaderResult {
+        kernel_load: load,
+        kernel_end: GuestAddress(end),
+        pvh_boot_cap: PvhBootCapability::PvhEntryIgnored,
+    })
 }

@@ -2,7 +2,6 @@
 ghost use Rattle.std.specs.Prelude.{◌≡◌};
 ghost use Rattle.bzimage.specs.SetupHeader.{place_of};
 
-use fields::{copying, numbers};
 use guest::ImagePlace;
 
 // The sizes of the thirty-nine fields, in order.
@@ -59,16 +58,13 @@ pub const LOADFLAGS: usize = 14;
 
 pub const CODE32_START: usize = 16;
 
-// Where a field stands in the image: the sizes before it, summed. A number past the last field gives the header's end.
+// The place of a field in the image: the sizes before it, summed. A number past the last field gives the header's end.
 pub fn place(field: usize) -> ImagePlace
     ensures { result.0 ≡ place_of field }
 {
-    let count = copying::lesser(field, 39);
     let mut at: u64 = 0x1F1;
-    let mut i = 0;
-    while i < count {
-        at += numbers::wide(SIZES[i]);
-        i += 1;
+    for size in &SIZES[..field.min(SIZES.len())] {
+        at += u64::from(*size);
     }
     ImagePlace(at)
 }

@@ -1,5 +1,8 @@
 -- "After an accepted ELF load each guest byte is the file byte of the last loadable segment whose file bytes cover it, or is
 -- untouched": byte_rule.
+use Rattle.std.specs.Prelude.{Ok, Option}
+use Rattle.guest.specs.declared.GuestAddress.{GuestAddress}
+use Rattle.guest.specs.Answers.{Answer}
 use Prim.Native.Nat.{ℕ, zero, suc, ◌+◌, ◌-◌, ◌≤◌, ◌<◌}
 use mathlib.Core.Path.{◌≡◌, sym, ◌∙◌, refl, subst, subst⁻¹}
 use mathlib.Core.List.{List}
@@ -11,7 +14,6 @@ use Rattle.fields.proofs.RangesLaws.{within_sum}
 use Rattle.guest.specs.Addresses.{amount_of}
 use Rattle.guest.specs.Room.{memory_of}
 use Rattle.guest.specs.Stream.{pour, last_at}
-use Rattle.guest.specs.declared.Given.{Given}
 use Rattle.guest.specs.declared.Map.{Map}
 use Rattle.guest.specs.declared.Memory.{Memory}
 use Rattle.guest.proofs.StreamLaws.{last_decides, last_append, last_inside, last_outside}
@@ -24,8 +26,6 @@ use Rattle.elf.specs.Load.{LoadSays}
 use Rattle.elf.specs.Verdict.{Accepted, is_accepted}
 use Rattle.elf.specs.ByteRule.{RuledBytes, Covers, FileByte, Ruled, last_covers, untouched}
 use Rattle.guest.specs.declared.KernelLoaderResult.{KernelLoaderResult}
-use Rattle.guest.specs.declared.Answer.{Answer}
-use Rattle.guest.specs.declared.Answer.TheVariants.{Loaded}
 use Rattle.elf.specs.declared.program_headers.ProgramHeader.{ProgramHeader}
 use Rattle.elf.proofs.PouringLaws.{segment_bytes, stream_none, stream_loads, plan_stream}
 use Rattle.elf.proofs.FitsLaws.{accepted_fit}
@@ -111,7 +111,7 @@ module _ (image : List ℕ) (m : Memory) (shift a : ℕ) where
 
 -- ---- a load
 
-module _ (image : List ℕ) (m : Memory) (offset highmem : Given) (ok : Accepted (plan_of image m offset highmem).answer) where
+module _ (image : List ℕ) (m : Memory) (offset highmem : Option GuestAddress) (ok : Accepted (plan_of image m offset highmem).answer) where
   poured_rule : (guest : List ℕ) (a : ℕ) → a < length guest
       → Ruled image (amount_of offset) a 0 (e_phnum_of image) (get_or guest a 0) (get_or (pour (whole_stream image offset) guest) a 0)
   unfolding whole_stream
@@ -121,13 +121,13 @@ module _ (image : List ℕ) (m : Memory) (offset highmem : Given) (ok : Accepted
       (stream_rule image m (amount_of offset) a (e_phnum_of image) 0 (get_or guest a 0) (λ j le lt'. accepted_fit image m offset highmem ok j (omega arith)))
 
 -- the theorem, of whatever the contract of `load` permits
-module _ (image : List ℕ) (offset highmem : Given) (map : Map) (before after : List ℕ) {r : Answer} (says : LoadSays image offset highmem map before r after) where
-  ruled_at : {result : KernelLoaderResult} → r ≡ Loaded result → (a : ℕ) → a < length before
+module _ (image : List ℕ) (offset highmem : Option GuestAddress) (map : Map) (before after : List ℕ) {r : Answer} (says : LoadSays image offset highmem map before r after) where
+  ruled_at : {result : KernelLoaderResult} → r ≡ Ok result → (a : ℕ) → a < length before
       → Ruled image (amount_of offset) a 0 (e_phnum_of image) (get_or before a 0) (get_or after a 0)
   ruled_at e a lt =
       let loaded = sym says.answer ∙ e in
       rw (says.memory, plan_stream image (memory_of before map) offset highmem, loaded)
       (poured_rule image (memory_of before map) offset highmem (subst⁻¹ Accepted loaded is_accepted) before a lt)
 
-  pub byte_rule : {result : KernelLoaderResult} → r ≡ Loaded result → RuledBytes image (amount_of offset) before after
+  pub byte_rule : {result : KernelLoaderResult} → r ≡ Ok result → RuledBytes image (amount_of offset) before after
   byte_rule e = record { as_long = load_length (plan_of image (memory_of before map) offset highmem) before after says; ruled = ruled_at e }

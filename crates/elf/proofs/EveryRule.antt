@@ -1,5 +1,9 @@
 -- "A load answers with success exactly when every rule holds for every header, whichever order they are asked in": rules_accept and
 -- accept_rules.
+use Rattle.std.specs.Prelude.{Ok, Err, Option, Result}
+use Rattle.answers.specs.declared.Refusal.{Refusal}
+use Rattle.elf.specs.declared.survey.Effect.{Effect}
+use Rattle.guest.specs.Answers.{Answer}
 use Prim.Native.Nat.{ℕ, zero, suc, ◌<◌}
 use mathlib.Core.Path.{◌≡◌, refl, subst⁻¹}
 use mathlib.Core.Bool.{Bool, true, false}
@@ -8,44 +12,38 @@ use native.Mathlib.Omega.{arith}
 use borrow.Author.Tests.{eqb-true, eqb-false, le-leb}
 use lib.Dec.{leb}
 use lib.ListN.{length}
-use Rattle.answers.specs.Tests.{Test, asked_all, AllHold}
-use Rattle.answers.specs.declared.Gate.{Gate}
-use Rattle.answers.specs.declared.Gate.TheVariants.{Open, Shut}
+use Rattle.answers.specs.Tests.{Test, asked_all, AllHold, Check, pass}
 use Rattle.answers.proofs.PickLaws.{pick_with}
 use Rattle.answers.proofs.TestsLaws.{open_all, all_open}
 use Rattle.guest.specs.Addresses.{amount_of, is_given}
 use Rattle.guest.specs.Room.{room}
-use Rattle.guest.specs.declared.Given.{Given}
 use Rattle.guest.specs.declared.GuestAddress.{GuestAddress}
 use Rattle.guest.specs.declared.Memory.{Memory}
 use Rattle.elf.specs.ProgramHeaders.{header_of}
+use Rattle.elf.specs.Notes.{NoteAnswer}
 use Rattle.elf.specs.NoteWalk.{entry_of}
 use Rattle.elf.specs.Survey.{segment_tests, memory_tests, end_of, step_by, load_step, said_step, note_step, step_of}
 use Rattle.elf.specs.Pouring.{plan_of}
 use Rattle.elf.specs.Verdict.{Passes, passes, Verdict, accepted, Accepted, is_accepted, by_header, by_test}
 use Rattle.elf.specs.Rules.{SegmentFits, MemoryRules, NotesSay, notes_say, HeaderRules, Rules}
-use Rattle.guest.specs.declared.Answer.{Answer}
-use Rattle.elf.specs.declared.NoteAnswer.{NoteAnswer}
-use Rattle.elf.specs.declared.NoteAnswer.TheVariants as answer
 use Rattle.elf.specs.declared.program_headers.ProgramHeader.{ProgramHeader}
-use Rattle.elf.specs.declared.survey.Step.{Step}
 use Rattle.elf.proofs.Verdicts.{none_decides, verdict}
 
 -- ---- one program header passes exactly where its rules hold
 
-passes_open : (gate : Gate) (end : GuestAddress) → Passes (step_by gate end) → gate ≡ Open
-passes_open (Shut _) end x'' = elim x'' [ ]
-passes_open Open end passes = refl
+passes_open : (gate : Check) (end : GuestAddress) → Passes (step_by gate end) → gate ≡ pass
+passes_open (Err _) end x'' = elim x'' [ ]
+passes_open (Ok _) end passes = refl
 
-hold_passes : (ts : List Test) (end : GuestAddress) → AllHold ts → Passes (step_by (asked_all Open ts) end)
-hold_passes ts end hold = subst⁻¹ (λ (gate : Gate). Passes (step_by gate end)) (all_open ts hold) passes
+hold_passes : (ts : List Test) (end : GuestAddress) → AllHold ts → Passes (step_by (asked_all pass ts) end)
+hold_passes ts end hold = subst⁻¹ (λ (gate : Check). Passes (step_by gate end)) (all_open ts hold) passes
 
 said_passes : {said : NoteAnswer} → NotesSay said → Passes (said_step said)
 said_passes notes_say = passes
 
 passes_said : (said : NoteAnswer) → Passes (said_step said) → NotesSay said
-passes_said (answer.Refused _) x'' = elim x'' [ ]
-passes_said (answer.Says cap) passes = notes_say
+passes_said (Err _) x'' = elim x'' [ ]
+passes_said (Ok note) passes = notes_say
 
 pub both_ways : {b : Bool} → b ≡ true → b ≡ false → ⊥
 both_ways e f = let w : ◌≡◌ {A = ℕ} 0 1 = cc in omega arith
@@ -54,7 +52,7 @@ pub positive : (n : ℕ) → (n ≡ 0 → ⊥) → 0 < n
 positive zero z = absurd (z refl)
 positive (suc n) z = omega arith
 
-module _ (image : List ℕ) (m : Memory) (offset : Given) (h : ProgramHeader) where
+module _ (image : List ℕ) (m : Memory) (offset : Option GuestAddress) (h : ProgramHeader) where
   abbrev Rule : Type 0
   Rule = HeaderRules image m offset h
 
@@ -65,7 +63,7 @@ module _ (image : List ℕ) (m : Memory) (offset : Given) (h : ProgramHeader) wh
   row = segment_tests (length image) (room m) shift h
 
   -- if it passes, its rules hold
-  abbrev Ruled : Step → Type 0
+  abbrev Ruled : Result Effect Refusal → Type 0
   Ruled t = Passes t → Rule
 
   -- the rules of a program header, by its type
@@ -73,7 +71,7 @@ module _ (image : List ℕ) (m : Memory) (offset : Given) (h : ProgramHeader) wh
       → (h.p_type ≡ 1 → h.p_filesz ≡ 0 → 0 < h.p_memsz → MemoryRules shift h) → Rule
   loadable is-1 sized file memory = record { sizes = λ _. sized; segment = file; memory = memory; notes = λ is-4 _. absurd (omega arith) }
 
-  other_type : (h.p_type ≡ 1 → ⊥) → (h.p_type ≡ 4 → is_given offset ≡ false → NotesSay (entry_of image h.p_offset h.p_filesz).answer) → Rule
+  other_type : (h.p_type ≡ 1 → ⊥) → (h.p_type ≡ 4 → is_given offset ≡ false → NotesSay (entry_of image h.p_offset h.p_filesz)) → Rule
   other_type not-1 notes =
       record { sizes = λ is-1. absurd (not-1 is-1); segment = λ is-1 _. absurd (not-1 is-1); memory = λ is-1 _ _. absurd (not-1 is-1); notes = notes }
 
@@ -98,7 +96,7 @@ module _ (image : List ℕ) (m : Memory) (offset : Given) (h : ProgramHeader) wh
       (λ other. let not-1 = eqb-false h.p_type 1 other in
       pick_with Ruled _
       (λ _. pick_with Ruled _ (λ given _. other_type not-1 (λ _ none. absurd (both_ways given none)))
-      (λ _ p. other_type not-1 (λ _ _. passes_said (entry_of image h.p_offset h.p_filesz).answer p)))
+      (λ _ p. other_type not-1 (λ _ _. passes_said (entry_of image h.p_offset h.p_filesz) p)))
       (λ other' _. other_type not-1 (λ is-4 _. absurd (eqb-false h.p_type 4 other' is-4))))
 
   load_passes : Rule → h.p_type ≡ 1 → Passes (load_step (length image) (room m) shift h)
@@ -121,7 +119,7 @@ module _ (image : List ℕ) (m : Memory) (offset : Given) (h : ProgramHeader) wh
 
 -- ---- the whole load
 
-module _ (image : List ℕ) (m : Memory) (offset highmem : Given) where
+module _ (image : List ℕ) (m : Memory) (offset highmem : Option GuestAddress) where
   abbrev told : Answer
   told = (plan_of image m offset highmem).answer
 

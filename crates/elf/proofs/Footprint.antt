@@ -1,6 +1,10 @@
 -- "Two images of one length that hold the same bytes in the header, the program headers and the notes have the same plan": the same answer, the same
 -- number of parts and the same parts, whatever the rest of either image holds. So a caller may plan with those bytes only, and copy the parts
 -- from the whole image (`loads`, Footprint).
+use Rattle.std.specs.Prelude.{Ok, Err, Option, Result}
+use Rattle.guest.specs.declared.GuestAddress.{GuestAddress}
+use Rattle.answers.specs.declared.Refusal.{Refusal}
+use Rattle.guest.specs.Answers.{Answer}
 use Prim.Native.Nat.{ℕ, zero, suc, ◌+◌, ◌*◌, ◌≤◌, ◌<◌}
 use mathlib.Core.Path.{◌≡◌, ◌∙◌, refl, ap}
 use mathlib.Core.Bool.{false}
@@ -16,7 +20,6 @@ use Rattle.fields.proofs.AgreementLaws.{agree_within, agree_le, agree_tag}
 use Rattle.guest.specs.Addresses.{amount_of, is_given}
 use Rattle.guest.specs.Parts.{no_part}
 use Rattle.guest.specs.Room.{room}
-use Rattle.guest.specs.declared.Given.{Given}
 use Rattle.guest.specs.declared.Memory.{Memory}
 use Rattle.guest.proofs.LoadingLaws.{answer_same}
 use Rattle.elf.specs.Footprint.{SameNotes, SameFootprint}
@@ -25,14 +28,9 @@ use Rattle.elf.specs.Parts.{part_at, part_of}
 use Rattle.elf.specs.Pouring.{survey_plan, plan_of}
 use Rattle.elf.specs.ProgramHeaders.{header_place, header_at, header_of}
 use Rattle.elf.specs.Survey.{Rooms, note_step, said_step, step_of, after_step, advanced, survey_from, survey_of, blank, load_address}
-use Rattle.guest.specs.declared.Answer.{Answer}
-use Rattle.guest.specs.declared.Answer.TheVariants.{Refused}
 use Rattle.guest.specs.declared.KernelLoaderResult.{KernelLoaderResult}
-use Rattle.elf.specs.declared.ElfNote.{ElfNote}
 use Rattle.elf.specs.declared.program_headers.ProgramHeader.{ProgramHeader}
 use Rattle.elf.specs.declared.survey.Effect.{Effect}
-use Rattle.elf.specs.declared.survey.Step.{Step}
-use Rattle.elf.specs.declared.survey.Step.TheVariants.{Pass, Stop}
 use Rattle.elf.proofs.NotesFootprint.{entry_same}
 
 -- ---- what is read
@@ -49,7 +47,7 @@ at_same s t p agree =
       agree_le s t 8 (p + 40) (agree_within s t p program_header_size (p + 40) 8 agree (omega arith) (omega arith)),
     )
 
-module _ (s t : List ℕ) (offset : Given) (same : SameFootprint s t offset) where
+module _ (s t : List ℕ) (offset : Option GuestAddress) (same : SameFootprint s t offset) where
   -- a field of the header
   field_same : (n p : ℕ) → p + n ≤ 64 → le n s p ≡ le n t p
   field_same n p h = agree_le s t n p (agree_within s t 0 64 p n same.header (omega arith) (omega arith))
@@ -74,7 +72,7 @@ module _ (s t : List ℕ) (offset : Given) (same : SameFootprint s t offset) whe
         (pick_both ◌≡◌ (eqb h.p_type 1) (λ _. refl)
         (λ _. pick_both ◌≡◌ (eqb h.p_type 4)
         (λ is. pick_both ◌≡◌ (is_given offset) (λ _. refl)
-        (λ none. ap (λ (n : ElfNote). said_step n.answer) (entry_same s t same.lengths h.p_offset h.p_filesz (notes none (eqb-true h.p_type 4 is)))))
+        (λ none. ap said_step (entry_same s t same.lengths h.p_offset h.p_filesz (notes none (eqb-true h.p_type 4 is)))))
         (λ _. refl)))
 
     step_same : (j : ℕ) → j < e_phnum_of s → step_of s hasRoom offset (header_of s j) ≡ step_of t hasRoom offset (header_of t j)
@@ -84,12 +82,12 @@ module _ (s t : List ℕ) (offset : Given) (same : SameFootprint s t offset) whe
     unfolding survey_from
     survey_same zero i result h = refl
     survey_same (suc n) i result h =
-        ap (λ (x : Step). after_step x (λ e. survey_from n s hasRoom offset (suc i) (advanced result e))) (step_same i (omega arith))
+        ap (λ (x : Result Effect Refusal). after_step x (λ e. survey_from n s hasRoom offset (suc i) (advanced result e))) (step_same i (omega arith))
         ∙ by (step_of t hasRoom offset (header_of t i)) (λ e. survey_same n (suc i) (advanced result e) (omega arith))
       where
-        by : {more more' : Effect → Answer} (x : Step) → ((e : Effect) → more e ≡ more' e) → after_step x more ≡ after_step x more'
-        by (Pass e) rest = rest e
-        by (Stop r) rest = refl
+        by : {more more' : Effect → Answer} (x : Result Effect Refusal) → ((e : Effect) → more e ≡ more' e) → after_step x more ≡ after_step x more'
+        by (Ok e) rest = rest e
+        by (Err r) rest = refl
 
     all_same : survey_of s hasRoom offset ≡ survey_of t hasRoom offset
     all_same =
@@ -98,7 +96,7 @@ module _ (s t : List ℕ) (offset : Given) (same : SameFootprint s t offset) whe
         ∙ ap (λ entry. survey_from (e_phnum_of t) t hasRoom offset 0 (blank (record { 0 = amount_of offset + entry }))) (field_same 8 24 (omega arith))
 
   module _ (m : Memory) where
-    tests_same : (highmem : Given) → tests s m offset highmem ≡ tests t m offset highmem
+    tests_same : (highmem : Option GuestAddress) → tests s m offset highmem ≡ tests t m offset highmem
     tests_same highmem =
         rw (
           same.lengths,
@@ -110,8 +108,8 @@ module _ (s t : List ℕ) (offset : Given) (same : SameFootprint s t offset) whe
           phnum_same,
         )
 
-    pub plan_same : (highmem : Given) → (plan_of s m offset highmem).answer ≡ (plan_of t m offset highmem).answer
-    plan_same highmem = answer_same Refused (survey_plan s offset (survey_of s (room m) offset)) (survey_plan t offset (survey_of t (room m) offset)) (tests_same highmem) (all_same (room m))
+    pub plan_same : (highmem : Option GuestAddress) → (plan_of s m offset highmem).answer ≡ (plan_of t m offset highmem).answer
+    plan_same highmem = answer_same Err (survey_plan s offset (survey_of s (room m) offset)) (survey_plan t offset (survey_of t (room m) offset)) (tests_same highmem) (all_same (room m))
 
   -- ---- the parts
 

@@ -1,4 +1,6 @@
 -- Laws of the tests before the program headers: what holds where all of them do.
+use Rattle.std.specs.Prelude.{Option}
+use Rattle.guest.specs.declared.GuestAddress.{GuestAddress}
 use Prim.Native.Nat.{ℕ, ◌+◌, ◌*◌, ◌≤◌, ◌<◌}
 use mathlib.Core.Path.{◌≡◌, sym, ◌∙◌, refl}
 use mathlib.Core.Bool.{Bool, true, false}
@@ -14,7 +16,6 @@ use Rattle.fields.specs.Ranges.{lies_within, top64}
 use Rattle.fields.proofs.RangesLaws.{within_sum, within_grows}
 use Rattle.guest.specs.Addresses.{amount_of}
 use Rattle.guest.specs.Lent.{lent_tests}
-use Rattle.guest.specs.declared.Given.{Given}
 use Rattle.guest.specs.declared.Memory.{Memory}
 use Rattle.elf.specs.Header.{header_size, program_header_size, e_entry_of, e_phoff_of, e_phnum_of, stand_within, length_tests, file_tests, entry_tests, stand_tests, field_tests, header_tests, tests}
 use Rattle.elf.specs.ProgramHeaders.{header_place, HeadersStand}
@@ -42,7 +43,7 @@ stand_grows len len' phoff n h = split (eqb n 0)
     split true e = refl
     split false e = within_grows len len' phoff (program_header_size * n) h e
 
-module _ (image : List ℕ) (m : Memory) (offset highmem : Given) (hold : AllHold (tests image m offset highmem)) where
+module _ (image : List ℕ) (m : Memory) (offset highmem : Option GuestAddress) (hold : AllHold (tests image m offset highmem)) where
   header_hold : AllHold (header_tests image offset highmem)
   header_hold = hold_right (lent_tests (length image) m) (header_tests image offset highmem) hold
 

@@ -1,5 +1,7 @@
 -- The plan when the image is lengthened by t and guest memory grows to m': it is the same, or it refused with what may lift. One argument
 -- serves the image and guest memory, alone and together: a refusal for image bytes lifts, or nothing was added to the image.
+use Rattle.std.specs.Prelude.{Ok, Err, Option, Result}
+use Rattle.guest.specs.Answers.{Answer}
 use Prim.Native.Nat.{ℕ, zero, suc, ◌+◌, ◌≤◌, ◌<◌}
 use mathlib.Core.Path.{◌≡◌, sym, ◌∙◌, refl, ap, subst⁻¹}
 use mathlib.Core.List.{List, [], ◌∷◌, ◌++◌}
@@ -12,9 +14,8 @@ use lib.Dec.{leb}
 use lib.ListN.{length, drop, length-drop}
 use lib.Seq.{take-append-le, drop-append-le}
 use Rattle.answers.specs.Listing.{contains}
-use Rattle.answers.specs.Tests.{AllHold}
+use Rattle.answers.specs.Tests.{AllHold, Check}
 use Rattle.answers.specs.Keeping.{Keeps, same, lifted, ShutBy, shut_by}
-use Rattle.answers.specs.declared.Gate.{Gate}
 use Rattle.answers.specs.declared.Refusal.{Refusal}
 use Rattle.answers.specs.declared.Refusal.TheVariants.{ReadElfHeader, ReadProgramHeader, ReadKernelImage, ReadNoteHeader}
 use Rattle.answers.proofs.KeepingLaws.{Widens, end, stays, grows, equal, pick_same, leb_grows, row_keeps, widens_append, widens_same}
@@ -25,30 +26,25 @@ use Rattle.guest.specs.Addresses.{amount_of}
 use Rattle.guest.specs.Lent.{lent_tests}
 use Rattle.guest.specs.Loading.{RefusedFor}
 use Rattle.guest.specs.Room.{Grows, room}
-use Rattle.guest.specs.declared.Given.{Given}
 use Rattle.guest.specs.declared.GuestAddress.{GuestAddress}
 use Rattle.guest.specs.declared.Memory.{Memory}
 use Rattle.guest.proofs.LoadingLaws.{LiftPlan, behind_keeps}
 use Rattle.elf.specs.Header.{header_size, program_header_size, magic, e_phoff_of, e_phnum_of, stand_within, length_tests, file_tests, entry_tests, stand_tests, field_tests, tests}
 use Rattle.elf.specs.ProgramHeaders.{header_place, header_at, header_of, HeadersStand}
 use Rattle.elf.specs.Survey.{segment_tests, end_of, step_by, load_step, said_step, note_step, step_of, advanced, blank, after_step, survey_from, load_address, survey_of}
+use Rattle.elf.specs.Notes.{NoteAnswer}
 use Rattle.elf.specs.Pouring.{segment_stream, stream_from, whole_stream, if_loaded, survey_plan, plan_of}
 use Rattle.elf.specs.Verdict.{Accepted, is_accepted}
 use Rattle.elf.specs.Rules.{SegmentFits}
 use Rattle.elf.specs.Lengthening.{ForBytes}
 use Rattle.guest.specs.declared.KernelLoaderResult.{KernelLoaderResult}
-use Rattle.guest.specs.declared.Answer.{Answer}
-use Rattle.guest.specs.declared.Answer.TheVariants.{Loaded, Refused}
-use Rattle.elf.specs.declared.NoteAnswer.{NoteAnswer}
 use Rattle.elf.specs.declared.program_headers.ProgramHeader.{ProgramHeader}
 use Rattle.elf.specs.declared.survey.Effect.{Effect}
-use Rattle.elf.specs.declared.survey.Step.{Step}
-use Rattle.elf.specs.declared.survey.Step.TheVariants.{Pass, Stop}
 use Rattle.elf.proofs.HeaderLaws.{stand_grows, header_stands, headers_stand}
 use Rattle.elf.proofs.Verdicts.{by_headers}
 use Rattle.elf.proofs.PouringLaws.{stream_none, stream_empty, stream_loads}
 use Rattle.elf.proofs.FitsLaws.{accepted_stand, accepted_fit}
-use Rattle.elf.proofs.NotesLengthened.{LiftSaid, lift_said, longer, as_long, image_widens, entry_longer}
+use Rattle.elf.proofs.NotesLengthened.{LiftNote, lift_note, longer, as_long, image_widens, entry_longer}
 
 -- ---- the kinds that may lift, from a program header up to the plan
 
@@ -69,30 +65,30 @@ unfolding contains
 for_note = refl
 
 module _ (Lifts : Refusal → Type 0) where
-  data LiftStep : Step → Type 0 where
-    lift_step : {r : Refusal} → Lifts r → LiftStep (Stop r)
+  data LiftStep : Result Effect Refusal → Type 0 where
+    lift_step : {r : Refusal} → Lifts r → LiftStep (Err r)
 
   abbrev LiftAnswer : Answer → Type 0
-  LiftAnswer = RefusedFor Refused Lifts
+  LiftAnswer = RefusedFor Err Lifts
 
   -- what follows each of them
 
-  gate_after : {x x' : Gate} (at : GuestAddress) → Keeps (ShutBy Lifts) x x' → Keeps LiftStep (step_by x at) (step_by x' at)
+  gate_after : {x x' : Check} (at : GuestAddress) → Keeps (ShutBy Lifts) x x' → Keeps LiftStep (step_by x at) (step_by x' at)
   gate_after at same = same
   gate_after at (lifted (shut_by l)) = lifted (lift_step l)
 
-  said_after : {x x' : NoteAnswer} → Keeps (LiftSaid Lifts) x x' → Keeps LiftStep (said_step x) (said_step x')
+  said_after : {x x' : NoteAnswer} → Keeps (LiftNote Lifts) x x' → Keeps LiftStep (said_step x) (said_step x')
   said_after same = same
-  said_after (lifted (lift_said l)) = lifted (lift_step l)
+  said_after (lifted (lift_note l)) = lifted (lift_step l)
 
-  step_after : {x x' : Step} {more more' : Effect → Answer} → Keeps LiftStep x x' → ((e : Effect) → Keeps LiftAnswer (more e) (more' e))
+  step_after : {x x' : Result Effect Refusal} {more more' : Effect → Answer} → Keeps LiftStep x x' → ((e : Effect) → Keeps LiftAnswer (more e) (more' e))
       → Keeps LiftAnswer (after_step x more) (after_step x' more')
   step_after (lifted (lift_step {r} l)) rest = lifted (record { refusal = r; lifts = l; is = refl })
   step_after {x} {more = more} {more' = more'} same rest = at x
     where
-      at : (x : Step) → Keeps LiftAnswer (after_step x more) (after_step x more')
-      at (Pass e) = rest e
-      at (Stop r) = same
+      at : (x : Result Effect Refusal) → Keeps LiftAnswer (after_step x more) (after_step x more')
+      at (Ok e) = rest e
+      at (Err r) = same
 
 -- ---- an image and what is added to it
 
@@ -144,7 +140,7 @@ module _ (s t : List ℕ) (m : Memory) (shift : ℕ) where
 module _ (s t : List ℕ) (Lifts : Refusal → Type 0) (lifts : (r : Refusal) → ForBytes r → (t ≡ []) ⊎ Lifts r) where
   -- ---- program headers, with more guest memory too
 
-  module _ (m m' : Memory) (more-memory : Grows m m') (lifts-room : Lifts ReadKernelImage) (offset highmem : Given) where
+  module _ (m m' : Memory) (more-memory : Grows m m') (lifts-room : Lifts ReadKernelImage) (offset highmem : Option GuestAddress) where
     segment_longer : (shift : ℕ) (h : ProgramHeader) → Widens Lifts (segment_tests (length s) (room m) shift h) (segment_tests (length (s ++ t)) (room m') shift h)
     segment_longer shift h =
         stays refl
@@ -185,8 +181,8 @@ module _ (s t : List ℕ) (Lifts : Refusal → Type 0) (lifts : (r : Refusal) �
     -- what is written comes from the image as it was
     stream_by : AllHold (tests s m offset highmem) → (a : Answer) → survey_of s (room m) offset ≡ a → if_loaded a (whole_stream (s ++ t) offset) ≡ if_loaded a (whole_stream s offset)
     unfolding whole_stream
-    stream_by hold (Refused r) e = refl
-    stream_by hold (Loaded result) e =
+    stream_by hold (Err r) e = refl
+    stream_by hold (Ok result) e =
         let ok : Accepted (plan_of s m offset highmem).answer = subst⁻¹ Accepted (by_headers s m offset highmem hold ∙ e) is_accepted in
         let long = header_stands s m offset highmem hold in
         rw (le_append 2 s t 56 (omega arith))
@@ -194,10 +190,10 @@ module _ (s t : List ℕ) (Lifts : Refusal → Type 0) (lifts : (r : Refusal) �
         (λ j le lt. accepted_fit s m offset highmem ok j (omega arith)))
 
     survey_planned : AllHold (tests s m offset highmem) → {a : Answer} → Keeps (LiftAnswer Lifts) (survey_of s (room m) offset) a
-        → Keeps (LiftPlan Refused Lifts) (survey_plan s offset (survey_of s (room m) offset)) (survey_plan (s ++ t) offset a)
+        → Keeps (LiftPlan Err Lifts) (survey_plan s offset (survey_of s (room m) offset)) (survey_plan (s ++ t) offset a)
     survey_planned hold (lifted l) = lifted l
     survey_planned hold same =
-        equal (LiftPlan Refused Lifts) (ap (λ ps. record { answer = survey_of s (room m) offset; stream = ps }) (stream_by hold (survey_of s (room m) offset) refl))
+        equal (LiftPlan Err Lifts) (ap (λ ps. record { answer = survey_of s (room m) offset; stream = ps }) (stream_by hold (survey_of s (room m) offset) refl))
 
     -- ---- the tests before them
 
@@ -231,5 +227,5 @@ module _ (s t : List ℕ) (Lifts : Refusal → Type 0) (lifts : (r : Refusal) �
           widens_append Lifts lent
           (λ _. widens_append Lifts length_asked (λ stands. fields_asked (leb-true header_size (length s) stands.0)))
 
-      pub plan_longer : Keeps (LiftPlan Refused Lifts) (plan_of s m offset highmem) (plan_of (s ++ t) m' offset highmem)
-      plan_longer = behind_keeps Refused Lifts row_longer (λ hold. survey_planned hold (whole_longer hold))
+      pub plan_longer : Keeps (LiftPlan Err Lifts) (plan_of s m offset highmem) (plan_of (s ++ t) m' offset highmem)
+      plan_longer = behind_keeps Err Lifts row_longer (λ hold. survey_planned hold (whole_longer hold))

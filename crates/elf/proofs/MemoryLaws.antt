@@ -1,19 +1,18 @@
 -- Laws of the guest memory that the segments of a load take.
+use Rattle.std.specs.Prelude.{Option}
+use Rattle.guest.specs.declared.GuestAddress.{GuestAddress}
 use Prim.Native.Nat.{ℕ, ◌+◌, ◌*◌, ◌≤◌, ◌<◌}
-use mathlib.Core.Path.{◌≡◌, ◌∙◌, subst}
+use mathlib.Core.Path.{◌≡◌, ◌∙◌}
 use mathlib.Core.Bool.{true}
 use mathlib.Core.List.{List}
 use native.Mathlib.Omega.{arith}
 use native.Mathlib.Decide.{dec_le}
-use borrow.Author.Tests.{eq-eqb, lt-ltb, le-ltb}
+use borrow.Author.Tests.{eq-eqb, lt-ltb}
 use lib.ListN.{length}
 use Rattle.answers.specs.Pick.{pick}
 use Rattle.fields.specs.Ranges.{fits64}
 use Rattle.fields.proofs.RangesLaws.{sum_within}
 use Rattle.guest.specs.Addresses.{amount_of}
-use Rattle.guest.specs.Extents.{no_extent}
-use Rattle.guest.specs.declared.Extent.{Extent}
-use Rattle.guest.specs.declared.Given.{Given}
 use Rattle.guest.specs.declared.Memory.{Memory}
 use Rattle.elf.specs.Header.{e_phoff_of, e_phnum_of, program_header_size}
 use Rattle.elf.specs.Memory.{segment_memory, header_memory, memory_at, memory_of}
@@ -25,21 +24,10 @@ use Rattle.elf.specs.declared.program_headers.ProgramHeader.{ProgramHeader}
 use Rattle.elf.proofs.EveryRule.{accept_rules}
 use Rattle.elf.proofs.FitsLaws.{accepted_stand}
 
--- the memory of any number, as code works it out
-module _ (image : List ℕ) (offset : Given) (i : ℕ) where
-  pub memory_past : {n : ℕ} {r : Extent} → n ≡ e_phnum_of image → n ≤ i → r ≡ no_extent → r ≡ memory_of image offset i
-  unfolding memory_of pick
-  memory_past en past er = rw (le-ltb i (e_phnum_of image) (subst (λ x. x ≤ i) en past)) er
-
-  pub memory_below : {n shift : ℕ} {r : Extent} → n ≡ e_phnum_of image → i < n → shift ≡ amount_of offset
-      → r ≡ memory_at image shift i → r ≡ memory_of image offset i
-  unfolding memory_of pick
-  memory_below en lt es er = rw (lt-ltb i (e_phnum_of image) (subst (λ x. i < x) en lt), er, es)
-
 -- ---- of an accepted load every segment that takes memory has it at its address
 
 -- the address of such a segment is a number of 64 bits, with file bytes or without
-address_fits : (image : List ℕ) (m : Memory) (offset : Given) (h : ProgramHeader) → HeaderRules image m offset h
+address_fits : (image : List ℕ) (m : Memory) (offset : Option GuestAddress) (h : ProgramHeader) → HeaderRules image m offset h
     → h.p_type ≡ 1 → 0 < h.p_memsz → fits64 (amount_of offset) h.p_paddr.0 ≡ true
 address_fits image m offset h rules loads some = split (dec_le 1 h.p_filesz)
   where
@@ -52,7 +40,7 @@ header_memory_lem : (shift : ℕ) (h : ProgramHeader) → h.p_type ≡ 1 → fit
 unfolding header_memory pick
 header_memory_lem shift h loads fits = rw (eq-eqb h.p_type 1 loads, fits)
 
-memory_stands : (image : List ℕ) (offset : Given) (j : ℕ) → j < e_phnum_of image
+memory_stands : (image : List ℕ) (offset : Option GuestAddress) (j : ℕ) → j < e_phnum_of image
     → header_place image j + program_header_size ≤ length image
     → memory_of image offset j ≡ header_memory (amount_of offset) (header_of image j)
 unfolding memory_of memory_at pick
@@ -62,7 +50,7 @@ memory_stands image offset j lt stands =
       sum_within (length image) (e_phoff_of image) (program_header_size * j + program_header_size) (omega arith),
     )
 
-pub segment_memory_lem : (image : List ℕ) (m : Memory) (offset highmem : Given) → Accepted (plan_of image m offset highmem).answer
+pub segment_memory_lem : (image : List ℕ) (m : Memory) (offset highmem : Option GuestAddress) → Accepted (plan_of image m offset highmem).answer
     → (j : ℕ) → j < e_phnum_of image → (header_of image j).p_type ≡ 1 → 0 < (header_of image j).p_memsz
     → memory_of image offset j ≡ segment_memory (amount_of offset) (header_of image j)
 segment_memory_lem image m offset highmem ok j lt loads some =

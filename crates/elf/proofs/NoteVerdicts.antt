@@ -1,5 +1,6 @@
--- "A number is given exactly when its turn comes and its condition holds", for the note walk: note_verdict says which rule decides the
--- public walk's answer and count, and verdict_decides that each rule, where its turn comes, decides.
+-- "A number is given exactly when its turn comes and its condition holds", for the note walk: note_verdict says which rule decides what
+-- the public walk returns, and verdict_decides that each rule, where its turn comes, decides.
+use Rattle.std.specs.Prelude.{Ok, Err}
 use Prim.Native.Nat.{ℕ, zero, suc, ◌+◌, ◌*◌, ◌-◌, ◌≤◌, ◌<◌}
 use mathlib.Core.Path.{◌≡◌, sym, ◌∙◌, refl, ap, subst⁻¹}
 use mathlib.Core.Bool.{Bool, true, false}
@@ -10,9 +11,7 @@ use native.Mathlib.Decide.{dec_le}
 use borrow.Author.Tests.{lt-ltb}
 use lib.ListN.{length}
 use Rattle.answers.specs.Pick.{pick}
-use Rattle.answers.specs.Tests.{asked_all, AllHold}
-use Rattle.answers.specs.declared.Gate.{Gate}
-use Rattle.answers.specs.declared.Gate.TheVariants.{Open, Shut}
+use Rattle.answers.specs.Tests.{asked_all, AllHold, Check, pass}
 use Rattle.answers.proofs.PickLaws.{pick_with}
 use Rattle.answers.proofs.TestsLaws.{open_all, all_open, shut_first, first_shut}
 use Rattle.guest.specs.Sizes.{allowed}
@@ -21,44 +20,42 @@ use Rattle.guest.specs.declared.PvhNote.{PvhNote}
 use Rattle.guest.specs.declared.PvhBootCapability.TheVariants as pvh
 use Rattle.reading.specs.Notes.{note_header_of}
 use Rattle.elf.specs.Load.{note_number}
-use Rattle.elf.specs.Notes.{is_pvh_note, note_length, note_at, note_tests, PassedOver, no_note, one_more, refused_note, found_note, NoteVerdict, too_long, refused, found, not_found}
+use Rattle.elf.specs.Notes.{is_pvh_note, note_length, note_at, note_tests, PassedOver, no_note, one_more, NoteAnswer, found_note, NoteVerdict, too_long, refused, found, not_found}
 use Rattle.elf.specs.NoteWalk.{turn_by, turn_at, after_turn, walk_from, twelves, entry_of, public_note}
-use Rattle.elf.specs.declared.NoteAnswer.TheVariants as answer
-use Rattle.elf.specs.declared.ElfNote.{ElfNote}
 use Rattle.elf.specs.declared.notes.Turn.TheVariants as turn
 use Rattle.elf.proofs.NotesLaws.{walk_end}
 
 -- a note if all its tests hold, else the refusal
-abbrev if_open : Gate → ElfNote → ElfNote
-if_open Open note = note
-if_open (Shut r) note = refused_note r
+abbrev if_open : Check → NoteAnswer → NoteAnswer
+if_open (Ok _) note = note
+if_open (Err r) note = Err r
 
 module _ (image : List ℕ) (from size : ℕ) where
   -- the note after j others, and what comes after it
-  abbrev after : ℕ → ℕ → ℕ → ElfNote
+  abbrev after : ℕ → ℕ → ℕ → NoteAnswer
   after left j read =
       pick (is_pvh_note image (from + read)) (found_note image (from + read) (suc j))
       (walk_from left image from size (read + note_length (note_header_of image (from + read))) (suc j))
 
   note_step : (left j read : ℕ) → read < size
-      → walk_from (suc left) image from size read j ≡ if_open (asked_all Open (note_tests image (from + read))) (after left j read)
+      → walk_from (suc left) image from size read j ≡ if_open (asked_all pass (note_tests image (from + read))) (after left j read)
   unfolding walk_from turn_at pick
   note_step left j read lt =
       rw (lt-ltb read size lt)
-      (by (asked_all Open (note_tests image (from + read))) (is_pvh_note image (from + read)) (note_at image (from + read)) _ _ (note_length (note_header_of image (from + read)))
+      (by (asked_all pass (note_tests image (from + read))) (is_pvh_note image (from + read)) (note_at image (from + read)) _ _ (note_length (note_header_of image (from + read)))
       (λ k. walk_from left image from size (read + k) (suc j)))
     where
-      by : (gate : Gate) (it : Bool) (note : PvhNote) (place : ImagePlace) (size k : ℕ) (more : ℕ → ElfNote)
+      by : (gate : Check) (it : Bool) (note : PvhNote) (place : ImagePlace) (size k : ℕ) (more : ℕ → NoteAnswer)
           → after_turn note (turn_by gate (pick it (turn.Found place size) (turn.Skip k))) (suc j) more
-          ≡ if_open gate (pick it (record { answer = answer.Says (pvh.PvhEntryPresent note); headers = suc j }) (more k))
-      by (Shut r) it note place size k more = refl
-      by Open true note place size k more = refl
-      by Open false note place size k more = refl
+          ≡ if_open gate (pick it (Ok (record { pvh = pvh.PvhEntryPresent note; headers = suc j })) (more k))
+      by (Err r) it note place size k more = refl
+      by (Ok _) true note place size k more = refl
+      by (Ok _) false note place size k more = refl
 
   -- ---- the walk from a note on
 
   module _ (short : allowed (length image) ≡ true) where
-    abbrev Decided : ElfNote → Type 0
+    abbrev Decided : NoteAnswer → Type 0
     Decided = NoteVerdict image from size
 
     walk_verdict : (left j read : ℕ) → PassedOver image from size j read → size ≤ read + 12 * left
@@ -70,9 +67,9 @@ module _ (image : List ℕ) (from size : ℕ) where
         by_gate : read < size
             → (AllHold (note_tests image (from + read)) → is_pvh_note image (from + read) ≡ false
             → Decided (walk_from left image from size (read + note_length (note_header_of image (from + read))) (suc j)))
-            → (gate : Gate) → asked_all Open (note_tests image (from + read)) ≡ gate → Decided (if_open gate (after left j read))
-        by_gate lt next (Shut r) e = refused short over lt (shut_first (note_tests image (from + read)) r e)
-        by_gate lt next Open e =
+            → (gate : Check) → asked_all pass (note_tests image (from + read)) ≡ gate → Decided (if_open gate (after left j read))
+        by_gate lt next (Err r) e = refused short over lt (shut_first (note_tests image (from + read)) r e)
+        by_gate lt next (Ok _) e =
             let hold = open_all (note_tests image (from + read)) e in
             pick_with Decided (is_pvh_note image (from + read)) (λ it. found short over lt hold it) (λ other. next hold other)
 
@@ -83,7 +80,7 @@ module _ (image : List ℕ) (from size : ℕ) where
         split (yes h) next = subst⁻¹ Decided (walk_end image from size read j (suc left) h) (not_found short over h)
         split (no h) next =
             let lt : read < size = omega arith in
-            subst⁻¹ Decided (note_step left j read lt) (by_gate lt (next lt) (asked_all Open (note_tests image (from + read))) refl)
+            subst⁻¹ Decided (note_step left j read lt) (by_gate lt (next lt) (asked_all pass (note_tests image (from + read))) refl)
 
   -- ---- the walk up to a note that is reached
 
@@ -93,7 +90,7 @@ module _ (image : List ℕ) (from size : ℕ) where
   -- a note is left to look at, since each note before it took twelve bytes or more
   next_step : (j read : ℕ) → 12 * j ≤ read → read < size
       → walk_from (left_after j) image from size read j
-      ≡ if_open (asked_all Open (note_tests image (from + read))) (after (left_after (suc j)) j read)
+      ≡ if_open (asked_all pass (note_tests image (from + read))) (after (left_after (suc j)) j read)
   next_step j read few lt =
       let one_left : left_after j ≡ suc (left_after (suc j)) = omega arith in
       ap (λ (left : ℕ). walk_from left image from size read j) one_left ∙ note_step (left_after (suc j)) j read lt
@@ -110,7 +107,7 @@ module _ (image : List ℕ) (from size : ℕ) where
       passed over ∙ next_step j read (few_notes over) lt ∙ rw (all_open (note_tests image (from + read)) hold, other)
 
   reached : {j read : ℕ} → PassedOver image from size j read → read < size
-      → walk_from (twelves size) image from size 0 0 ≡ if_open (asked_all Open (note_tests image (from + read))) (after (left_after (suc j)) j read)
+      → walk_from (twelves size) image from size 0 0 ≡ if_open (asked_all pass (note_tests image (from + read))) (after (left_after (suc j)) j read)
   reached {j} {read} over lt = passed over ∙ next_step j read (few_notes over) lt
 
 -- ---- the public walk
@@ -128,7 +125,7 @@ module _ (image : List ℕ) (from : ImagePlace) (size : ℕ) where
   public_walk short = rw short
 
   -- each rule, where its turn comes, decides
-  pub verdict_decides : {note : ElfNote} → NoteVerdict image from.0 size note → public_note image from size ≡ note
+  pub verdict_decides : {note : NoteAnswer} → NoteVerdict image from.0 size note → public_note image from size ≡ note
   unfolding public_note pick
   verdict_decides (too_long long) = rw long
   verdict_decides (refused {j} {read} {r} short over lt fails) =
@@ -139,5 +136,5 @@ module _ (image : List ℕ) (from : ImagePlace) (size : ℕ) where
       public_walk short ∙ passed image from.0 size over ∙ walk_end image from.0 size read j (left_after image from.0 size j) end
 
   -- in the catalogue's numbers
-  pub note_number_lem : {note : ElfNote} → NoteVerdict image from.0 size note → note_number (public_note image from size).answer ≡ note_number note.answer
-  note_number_lem decided = ap (λ (n : ElfNote). note_number n.answer) (verdict_decides decided)
+  pub note_number_lem : {note : NoteAnswer} → NoteVerdict image from.0 size note → note_number (public_note image from size) ≡ note_number note
+  note_number_lem decided = ap note_number (verdict_decides decided)

@@ -1,4 +1,6 @@
 -- The note walk over two images of one length that hold the same bytes from the segment's first on, up to 19 past its last: it answers the same.
+use Rattle.std.specs.Prelude.{Ok, Err, Result}
+use Rattle.answers.specs.declared.Refusal.{Refusal}
 use Prim.Native.Nat.{ℕ, zero, suc, ◌+◌, ◌<◌}
 use mathlib.Core.Path.{◌≡◌, ◌∙◌, refl, ap}
 use mathlib.Core.List.{List}
@@ -13,17 +15,16 @@ use Rattle.guest.specs.declared.ImagePlace.{ImagePlace}
 use Rattle.guest.specs.declared.PvhNote.{PvhNote}
 use Rattle.reading.specs.Notes.{note_header_of}
 use Rattle.elf.specs.Footprint.{note_reach}
-use Rattle.elf.specs.Notes.{note_header_size, xen, is_pvh_note, descriptor_at, note_at, note_tests}
+use Rattle.elf.specs.Notes.{note_header_size, xen, is_pvh_note, descriptor_at, note_at, note_tests, NoteAnswer}
 use Rattle.elf.specs.NoteWalk.{turn_at, after_turn, walk_from, twelves, entry_of}
-use Rattle.elf.specs.declared.ElfNote.{ElfNote}
 use Rattle.elf.specs.declared.notes.Turn.{Turn}
 use Rattle.elf.specs.declared.notes.Turn.TheVariants as turn
 
-after_same : (note : PvhNote) (x : Turn) (headers : ℕ) (more more' : ℕ → ElfNote) → ((k : ℕ) → more k ≡ more' k)
+after_same : (note : PvhNote) (x : Result Turn Refusal) (headers : ℕ) (more more' : ℕ → NoteAnswer) → ((k : ℕ) → more k ≡ more' k)
     → after_turn note x headers more ≡ after_turn note x headers more'
-after_same note (turn.Found place size) headers more more' rest = refl
-after_same note (turn.Skip k) headers more more' rest = rest k
-after_same note (turn.Refused r) headers more more' rest = refl
+after_same note (Ok (turn.Found place size)) headers more more' rest = refl
+after_same note (Ok (turn.Skip k)) headers more more' rest = rest k
+after_same note (Err r) headers more more' rest = refl
 
 module _ (s t : List ℕ) (lengths : length s ≡ length t) where
   -- one note, of which twenty bytes are looked at
@@ -52,7 +53,7 @@ module _ (s t : List ℕ) (lengths : length s ≡ length t) where
       pick_both ◌≡◌ (ltb read size)
       (λ begun. let lt = ltb-true read size begun in
       let here = agree_within s t from (size + note_reach) (from + read) 20 agree (omega arith) (omega arith) in
-      ap (λ (x : Turn). after_turn (note_at s (from + read)) x (suc headers) (λ k. walk_from left s from size (read + k) (suc headers))) (turn_same (from + read) here)
+      ap (λ (x : Result Turn Refusal). after_turn (note_at s (from + read)) x (suc headers) (λ k. walk_from left s from size (read + k) (suc headers))) (turn_same (from + read) here)
       ∙ ap (λ (n : PvhNote). after_turn n (turn_at t (from + read)) (suc headers) (λ k. walk_from left s from size (read + k) (suc headers))) (found_same (from + read) here)
       ∙ after_same (note_at t (from + read)) (turn_at t (from + read)) (suc headers) (λ k. walk_from left s from size (read + k) (suc headers)) (λ k. walk_from left t from size (read + k) (suc headers))
       (λ k. walk_same left from size (read + k) (suc headers) agree))

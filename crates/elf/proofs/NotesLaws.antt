@@ -1,4 +1,5 @@
 -- Laws of the note walk.
+use Rattle.std.specs.Prelude.{Ok, Err, Result}
 use Prim.Native.Nat.{ℕ, zero, suc, ◌+◌, ◌*◌, ◌-◌, ◌≤◌, ◌<◌}
 use mathlib.Core.Path.{◌≡◌, refl, sym, ◌∙◌, ap, subst}
 use mathlib.Core.Bool.{Bool, true, false}
@@ -9,9 +10,7 @@ use borrow.Author.Tests.{lt-ltb, le-ltb, leb-true}
 use lib.Dec.{leb}
 use lib.ListN.{length, take, drop}
 use Rattle.answers.specs.Pick.{pick}
-use Rattle.answers.specs.Tests.{asked, asked_all, AllHold}
-use Rattle.answers.specs.declared.Gate.{Gate}
-use Rattle.answers.specs.declared.Gate.TheVariants.{Open, Shut}
+use Rattle.answers.specs.Tests.{asked, asked_all, AllHold, Check, pass}
 use Rattle.answers.specs.declared.Refusal.{Refusal}
 use Rattle.answers.specs.declared.Refusal.TheVariants.{ReadNoteHeader}
 use Rattle.answers.proofs.PickLaws.{pick_with}
@@ -21,18 +20,11 @@ use Rattle.fields.specs.Tags.{tag_at}
 use Rattle.fields.proofs.NumbersLaws.{le_within}
 use Rattle.fields.proofs.RangesLaws.{within_test, within_sum}
 use Rattle.guest.specs.declared.ImagePlace.{ImagePlace}
-use Rattle.guest.specs.declared.PvhBootCapability.TheVariants as pvh
 use Rattle.reading.specs.Notes.{note_header_of}
-use Rattle.elf.specs.Notes.{note_header_size, xen, is_wanted, is_pvh_note, top_size, note_length, note_with, descriptor_at, note_at, pvh_tests, size_tests, note_tests, no_entry}
-use Rattle.elf.specs.NoteWalk.{turn_by, turn_at, after_turn, walk_from, twelves, entry_of, said_by, note_of}
-use Rattle.elf.specs.declared.NoteAnswer.{NoteAnswer}
-use Rattle.elf.specs.declared.NoteAnswer.TheVariants as answer
-use Rattle.elf.specs.declared.ElfNote.{ElfNote}
+use Rattle.elf.specs.Notes.{note_header_size, xen, is_wanted, is_pvh_note, top_size, note_length, note_with, descriptor_at, note_at, pvh_tests, size_tests, note_tests, NoteAnswer, no_entry}
+use Rattle.elf.specs.NoteWalk.{turn_by, turn_at, after_turn, walk_from, twelves}
 use Rattle.elf.specs.declared.notes.Turn.{Turn}
 use Rattle.elf.specs.declared.notes.Turn.TheVariants as turn
-use Rattle.elf.specs.declared.notes.Walk.{Walk}
-use Rattle.elf.specs.declared.notes.Walk.TheVariants as walk
-use Rattle.elf.specs.declared.notes.Walked.{Walked}
 
 -- ---- a note's header
 
@@ -60,14 +52,14 @@ abbrev pub found : List ℕ → ℕ → Turn
 found image p = turn.Found (record { 0 = descriptor_at p }) (note_header_of image p).n_descsz
 
 module _ (image : List ℕ) (p : ℕ) where
-  abbrev skips_it : Turn
-  skips_it = turn_by (asked_all Open (size_tests (note_header_of image p))) (turn.Skip (note_length (note_header_of image p)))
+  abbrev skips_it : Result Turn Refusal
+  skips_it = turn_by (asked_all pass (size_tests (note_header_of image p))) (turn.Skip (note_length (note_header_of image p)))
 
-  pub turn_short : lies_within (length image) p note_header_size ≡ false → turn_at image p ≡ turn.Refused ReadNoteHeader
+  pub turn_short : lies_within (length image) p note_header_size ≡ false → turn_at image p ≡ Err ReadNoteHeader
   unfolding turn_at note_tests asked pick
   turn_short short =
       rw short
-      (ap (λ (gate : Gate). turn_by gate (pick (is_pvh_note image p) (found image p) (turn.Skip (note_length (note_header_of image p)))))
+      (ap (λ (gate : Check). turn_by gate (pick (is_pvh_note image p) (found image p) (turn.Skip (note_length (note_header_of image p)))))
       (shut_stays (pick (is_pvh_note image p) (pvh_tests image p) (size_tests (note_header_of image p))) ReadNoteHeader))
 
   module _ (stands : lies_within (length image) p note_header_size ≡ true) where
@@ -76,11 +68,11 @@ module _ (image : List ℕ) (p : ℕ) where
     turn_other other = rw (stands, other)
 
     module _ (wanted : is_wanted (note_header_of image p) ≡ true) where
-      pub turn_unnamed : lies_within (length image) (p + note_header_size) 4 ≡ false → turn_at image p ≡ turn.Refused ReadNoteHeader
+      pub turn_unnamed : lies_within (length image) (p + note_header_size) 4 ≡ false → turn_at image p ≡ Err ReadNoteHeader
       unfolding turn_at note_tests asked pick
       turn_unnamed short =
           rw (stands, wanted, short)
-          (ap (λ (gate : Gate). turn_by gate (pick (is_pvh_note image p) (found image p) (turn.Skip (note_length (note_header_of image p)))))
+          (ap (λ (gate : Check). turn_by gate (pick (is_pvh_note image p) (found image p) (turn.Skip (note_length (note_header_of image p)))))
           (shut_stays (pick (is_pvh_note image p) (pvh_tests image p) (size_tests (note_header_of image p))) ReadNoteHeader))
 
       module _ (named : lies_within (length image) (p + note_header_size) 4 ≡ true) where
@@ -88,7 +80,7 @@ module _ (image : List ℕ) (p : ℕ) where
         unfolding turn_at note_tests is_pvh_note asked pick
         turn_named other = rw (stands, wanted, named, other)
 
-        pub turn_pvh : tag_at xen image (p + note_header_size) ≡ true → turn_at image p ≡ turn_by (asked_all Open (pvh_tests image p)) (found image p)
+        pub turn_pvh : tag_at xen image (p + note_header_size) ≡ true → turn_at image p ≡ turn_by (asked_all pass (pvh_tests image p)) (found image p)
         unfolding turn_at note_tests is_pvh_note asked pick
         turn_pvh it = rw (stands, wanted, named, it)
 
@@ -98,10 +90,10 @@ module _ (image : List ℕ) (p : ℕ) where
 abbrev pub longest_note : ℕ
 longest_note = 8589934604
 
-data Strides (image : List ℕ) (p : ℕ) : Turn → Type 0 where
-  finds : Strides image p (found image p)
-  skips : {k : ℕ} → note_header_size ≤ k → k ≤ longest_note → Strides image p (turn.Skip k)
-  refuses : {r : Refusal} → Strides image p (turn.Refused r)
+data Strides (image : List ℕ) (p : ℕ) : Result Turn Refusal → Type 0 where
+  finds : Strides image p (Ok (found image p))
+  skips : {k : ℕ} → note_header_size ≤ k → k ≤ longest_note → Strides image p (Ok (turn.Skip k))
+  refuses : {r : Refusal} → Strides image p (Err r)
 
 -- of a note that is not the PVH note both sizes were tested
 pub sizes_hold : (image : List ℕ) (p : ℕ) → is_pvh_note image p ≡ false → AllHold (note_tests image p) → AllHold (size_tests (note_header_of image p))
@@ -118,63 +110,63 @@ header_lies image p hold = within_sum (length image) p note_header_size hold.0
 
 turn_strides : (image : List ℕ) (p : ℕ) → Strides image p (turn_at image p)
 unfolding turn_at
-turn_strides image p = by (asked_all Open (note_tests image p)) refl
+turn_strides image p = by (asked_all pass (note_tests image p)) refl
   where
-    by : (gate : Gate) → asked_all Open (note_tests image p) ≡ gate
+    by : (gate : Check) → asked_all pass (note_tests image p) ≡ gate
         → Strides image p (turn_by gate (pick (is_pvh_note image p) (found image p) (turn.Skip (note_length (note_header_of image p)))))
-    by (Shut r) e = refuses
-    by Open e =
-        pick_with (Strides image p) (is_pvh_note image p) (λ _. finds)
+    by (Err r) e = refuses
+    by (Ok _) e =
+        pick_with (λ t. Strides image p (Ok t)) (is_pvh_note image p) (λ _. finds)
         (λ other. let sizes = sizes_hold image p other (open_all (note_tests image p) e) in
         let name-small = leb-true (note_header_of image p).n_namesz top_size sizes.0 in
         let desc-small = leb-true (note_header_of image p).n_descsz top_size sizes.1.0 in
         skips (omega arith) (omega arith))
 
 -- of a note that is found the header lies in the image, and both tests of its descriptor hold
-data Held (P : Type 0) : Turn → Type 0 where
-  held_found : {place : ImagePlace} {size : ℕ} → P → Held P (turn.Found place size)
-  held_skip : {k : ℕ} → Held P (turn.Skip k)
-  held_refused : {r : Refusal} → Held P (turn.Refused r)
+data Held (P : Type 0) : Result Turn Refusal → Type 0 where
+  held_found : {place : ImagePlace} {size : ℕ} → P → Held P (Ok (turn.Found place size))
+  held_skip : {k : ℕ} → Held P (Ok (turn.Skip k))
+  held_refused : {r : Refusal} → Held P (Err r)
 
 turn_held : (image : List ℕ) (p : ℕ) → Held ((p + note_header_size ≤ length image) × AllHold (pvh_tests image p)) (turn_at image p)
 unfolding turn_at
-turn_held image p = by (asked_all Open (note_tests image p)) refl
+turn_held image p = by (asked_all pass (note_tests image p)) refl
   where
     P : Type 0
     P = (p + note_header_size ≤ length image) × AllHold (pvh_tests image p)
 
-    by : (gate : Gate) → asked_all Open (note_tests image p) ≡ gate
+    by : (gate : Check) → asked_all pass (note_tests image p) ≡ gate
         → Held P (turn_by gate (pick (is_pvh_note image p) (found image p) (turn.Skip (note_length (note_header_of image p)))))
-    by (Shut r) e = held_refused
-    by Open e =
+    by (Err r) e = held_refused
+    by (Ok _) e =
         let hold = open_all (note_tests image p) e in
-        pick_with (Held P) (is_pvh_note image p) (λ it. held_found (header_lies image p hold, pvh_hold image p it hold)) (λ _. held_skip)
+        pick_with (λ t. Held P (Ok t)) (is_pvh_note image p) (λ it. held_found (header_lies image p hold, pvh_hold image p it hold)) (λ _. held_skip)
 
-of_held : {P : Type 0} {place : ImagePlace} {size : ℕ} → Held P (turn.Found place size) → P
+of_held : {P : Type 0} {place : ImagePlace} {size : ℕ} → Held P (Ok (turn.Found place size)) → P
 of_held (held_found p) = p
 
-pub found_hold : {place : ImagePlace} {size : ℕ} (image : List ℕ) (p : ℕ) → turn_at image p ≡ turn.Found place size
+pub found_hold : {place : ImagePlace} {size : ℕ} (image : List ℕ) (p : ℕ) → turn_at image p ≡ Ok (turn.Found place size)
     → (p + note_header_size ≤ length image) × AllHold (pvh_tests image p)
 found_hold image p e = of_held (subst (Held ((p + note_header_size ≤ length image) × AllHold (pvh_tests image p))) e (turn_held image p))
 
-skip_bounds : {image : List ℕ} {p k : ℕ} → Strides image p (turn.Skip k) → (note_header_size ≤ k) × (k ≤ longest_note)
+skip_bounds : {image : List ℕ} {p k : ℕ} → Strides image p (Ok (turn.Skip k)) → (note_header_size ≤ k) × (k ≤ longest_note)
 skip_bounds (skips least most) = (least, most)
 
-pub strides : {k : ℕ} (image : List ℕ) (p : ℕ) → turn_at image p ≡ turn.Skip k → (note_header_size ≤ k) × (k ≤ longest_note)
+pub strides : {k : ℕ} (image : List ℕ) (p : ℕ) → turn_at image p ≡ Ok (turn.Skip k) → (note_header_size ≤ k) × (k ≤ longest_note)
 strides image p e = skip_bounds (subst (Strides image p) e (turn_strides image p))
 
 -- the note that is found is the PVH note at p
-found_with : {image : List ℕ} {p size : ℕ} {place : ImagePlace} → Strides image p (turn.Found place size) → note_with image place size ≡ note_at image p
+found_with : {image : List ℕ} {p size : ℕ} {place : ImagePlace} → Strides image p (Ok (turn.Found place size)) → note_with image place size ≡ note_at image p
 found_with finds = refl
 
-pub found_note : {place : ImagePlace} {size : ℕ} (image : List ℕ) (p : ℕ) → turn_at image p ≡ turn.Found place size → note_with image place size ≡ note_at image p
+pub found_note : {place : ImagePlace} {size : ℕ} (image : List ℕ) (p : ℕ) → turn_at image p ≡ Ok (turn.Found place size) → note_with image place size ≡ note_at image p
 found_note image p e = found_with (subst (Strides image p) e (turn_strides image p))
 
 -- ---- the walk, note by note
 
 module _ (image : List ℕ) (from size read headers : ℕ) where
   -- each note before this one took twelve bytes or more: so it is one of those that are left
-  pub walk_through : {whole : ElfNote} {t : Turn} → 12 * headers ≤ read → read < size → turn_at image (from + read) ≡ t
+  pub walk_through : {whole : NoteAnswer} {t : Result Turn Refusal} → 12 * headers ≤ read → read < size → turn_at image (from + read) ≡ t
       → walk_from (twelves size - headers) image from size read headers ≡ whole
       → after_turn (note_at image (from + read)) t (headers + 1) (λ k. walk_from (twelves size - (headers + 1)) image from size (read + k) (headers + 1)) ≡ whole
   unfolding walk_from pick
@@ -188,19 +180,3 @@ module _ (image : List ℕ) (from size read headers : ℕ) where
   unfolding walk_from pick
   walk_end zero h = refl
   walk_end (suc n) h = rw (le-ltb read size h)
-
--- ---- what the walk says
-
--- if no note was found, and nothing refused
-pub not_found : (image : List ℕ) (w : Walk) → ((place : ImagePlace) (size : ℕ) → w ≡ walk.Found place size → ⊥) → ((r : Refusal) → w ≡ walk.Refused r → ⊥)
-    → answer.Says pvh.PvhEntryNotPresent ≡ said_by image w
-unfolding said_by
-not_found image (walk.Found place size) h g = absurd (h place size refl)
-not_found image walk.NotFound h g = refl
-not_found image (walk.Refused r) h g = absurd (g r refl)
-
-pub said_as : (image : List ℕ) (from : ImagePlace) (size : ℕ) {walked : Walked} {w : Walk} {said : NoteAnswer}
-    → note_of image walked ≡ entry_of image from size → walked.walk ≡ w → said ≡ said_by image w
-    → ◌≡◌ {A = ElfNote} (record { answer = said; headers = walked.headers }) (entry_of image from size)
-said_as image from size {walked} ew found es =
-    ap (λ (a : NoteAnswer). record { answer = a; headers = walked.headers }) (es ∙ ap (said_by image) (sym found)) ∙ ew

@@ -1,5 +1,6 @@
 -- "The note walk over a longer image keeps its answer and its count, unless it was refused for missing bytes": note_longer, of the public
 -- walk within the size limit. A load over a longer image cites entry_longer.
+use Rattle.std.specs.Prelude.{Ok, Err, Result}
 use Prim.Native.Nat.{ℕ, zero, suc, ◌+◌, ◌≤◌}
 use mathlib.Core.Path.{◌≡◌, ◌∙◌, refl, ap}
 use mathlib.Core.Bool.{Bool, true, false}
@@ -9,13 +10,11 @@ use native.Mathlib.Omega.{arith}
 use lib.Dec.{leb}
 use lib.ListN.{length, length-append}
 use Rattle.answers.specs.Pick.{pick}
-use Rattle.answers.specs.Tests.{Test, AllHold}
+use Rattle.answers.specs.Tests.{Test, AllHold, Check, pass}
 use Rattle.answers.specs.Keeping.{Keeps, same, lifted, ShutBy, shut_by}
-use Rattle.answers.specs.declared.Gate.{Gate}
-use Rattle.answers.specs.declared.Gate.TheVariants.{Open, Shut}
 use Rattle.answers.specs.declared.Refusal.{Refusal}
 use Rattle.answers.specs.declared.Refusal.TheVariants.{ReadNoteHeader, InvalidPvhNote}
-use Rattle.answers.proofs.KeepingLaws.{Widens, end, stays, grows, kept, equal, keeps_map, pick_same, row_keeps, widens_same}
+use Rattle.answers.proofs.KeepingLaws.{Widens, end, stays, grows, kept, equal, pick_same, row_keeps, widens_same}
 use Rattle.answers.proofs.TestsLaws.{open_all}
 use Rattle.fields.specs.Ranges.{lies_within}
 use Rattle.fields.specs.Tags.{tag_at}
@@ -29,11 +28,8 @@ use Rattle.guest.specs.declared.PvhBootCapability.TheVariants as pvh
 use Rattle.guest.proofs.RoomLaws.{allowed_longer}
 use Rattle.reading.specs.Notes.{note_header_of}
 use Rattle.reading.specs.declared.NoteHeader.{NoteHeader}
-use Rattle.elf.specs.Notes.{note_header_size, xen, is_wanted, is_pvh_note, note_length, descriptor_at, note_at, size_tests, note_tests}
+use Rattle.elf.specs.Notes.{note_header_size, xen, is_wanted, is_pvh_note, note_length, descriptor_at, note_at, size_tests, note_tests, NoteAnswer}
 use Rattle.elf.specs.NoteWalk.{turn_by, turn_at, after_turn, walk_from, twelves, entry_of, public_note}
-use Rattle.elf.specs.declared.NoteAnswer.{NoteAnswer}
-use Rattle.elf.specs.declared.NoteAnswer.TheVariants as answer
-use Rattle.elf.specs.declared.ElfNote.{ElfNote}
 use Rattle.elf.specs.declared.notes.Turn.{Turn}
 use Rattle.elf.specs.declared.notes.Turn.TheVariants as turn
 use Rattle.elf.proofs.NotesLaws.{found, header_lies, found_hold}
@@ -41,35 +37,32 @@ use Rattle.elf.proofs.NotesLaws.{found, header_lies, found_hold}
 -- ---- the kinds that may lift, from a note up to the answer, and what follows each of them
 
 module _ (Lifts : Refusal → Type 0) where
-  data LiftTurn : Turn → Type 0 where
-    lift_turn : {r : Refusal} → Lifts r → LiftTurn (turn.Refused r)
+  data LiftTurn : Result Turn Refusal → Type 0 where
+    lift_turn : {r : Refusal} → Lifts r → LiftTurn (Err r)
 
-  pub data LiftSaid : NoteAnswer → Type 0 where
-    lift_said : {r : Refusal} → Lifts r → LiftSaid (answer.Refused r)
+  pub data LiftNote : NoteAnswer → Type 0 where
+    lift_note : {r : Refusal} → Lifts r → LiftNote (Err r)
 
-  abbrev LiftNote : ElfNote → Type 0
-  LiftNote note = LiftSaid note.answer
-
-  gate_after : {x x' : Gate} (t t' : Turn) → Keeps (ShutBy Lifts) x x' → (x ≡ Open → t' ≡ t) → Keeps LiftTurn (turn_by x t) (turn_by x' t')
+  gate_after : {x x' : Check} (t t' : Turn) → Keeps (ShutBy Lifts) x x' → (x ≡ pass → t' ≡ t) → Keeps LiftTurn (turn_by x t) (turn_by x' t')
   gate_after t t' (lifted (shut_by l)) opened = lifted (lift_turn l)
   gate_after {x} t t' same opened = at x opened
     where
-      at : (x : Gate) → (x ≡ Open → t' ≡ t) → Keeps LiftTurn (turn_by x t) (turn_by x t')
-      at Open opened = equal LiftTurn (opened refl)
-      at (Shut r) opened = same
+      at : (x : Check) → (x ≡ pass → t' ≡ t) → Keeps LiftTurn (turn_by x t) (turn_by x t')
+      at (Ok _) opened = equal LiftTurn (ap Ok (opened refl))
+      at (Err r) opened = same
 
-  turn_after : (note note' : PvhNote) (headers : ℕ) {x x' : Turn} {more more' : ℕ → ElfNote} → Keeps LiftTurn x x'
-      → ((place : ImagePlace) (size : ℕ) → x ≡ turn.Found place size → note' ≡ note) → ((k : ℕ) → Keeps LiftNote (more k) (more' k))
+  turn_after : (note note' : PvhNote) (headers : ℕ) {x x' : Result Turn Refusal} {more more' : ℕ → NoteAnswer} → Keeps LiftTurn x x'
+      → ((place : ImagePlace) (size : ℕ) → x ≡ Ok (turn.Found place size) → note' ≡ note) → ((k : ℕ) → Keeps LiftNote (more k) (more' k))
       → Keeps LiftNote (after_turn note x headers more) (after_turn note' x' headers more')
-  turn_after note note' headers (lifted (lift_turn l)) one rest = lifted (lift_said l)
+  turn_after note note' headers (lifted (lift_turn l)) one rest = lifted (lift_note l)
   turn_after note note' headers {x} {more = more} {more' = more'} same one rest = at x one
     where
-      at : (x : Turn) → ((place : ImagePlace) (size : ℕ) → x ≡ turn.Found place size → note' ≡ note)
+      at : (x : Result Turn Refusal) → ((place : ImagePlace) (size : ℕ) → x ≡ Ok (turn.Found place size) → note' ≡ note)
           → Keeps LiftNote (after_turn note x headers more) (after_turn note' x headers more')
-      at (turn.Found place size) one =
-          equal LiftNote (ap (λ (n : PvhNote). record { answer = answer.Says (pvh.PvhEntryPresent n); headers = headers }) (one place size refl))
-      at (turn.Skip k) one = rest k
-      at (turn.Refused r) one = same
+      at (Ok (turn.Found place size)) one =
+          equal LiftNote (ap (λ (n : PvhNote). Ok (record { pvh = pvh.PvhEntryPresent n; headers = headers })) (one place size refl))
+      at (Ok (turn.Skip k)) one = rest k
+      at (Err r) one = same
 
 -- ---- an image and what is added to it
 
@@ -141,7 +134,7 @@ module _ (s t : List ℕ) (Lifts : Refusal → Type 0) (lifts : (t ≡ []) ⊎ L
         ≡ pick (is_pvh_note s p) (found s p) (turn.Skip (note_length note))
     says_same hold = rw (it_same hold, note_append s t p (header_lies s p hold))
 
-    found_same : {place : ImagePlace} {size : ℕ} → turn_at s p ≡ turn.Found place size → note_at (s ++ t) p ≡ note_at s p
+    found_same : {place : ImagePlace} {size : ℕ} → turn_at s p ≡ Ok (turn.Found place size) → note_at (s ++ t) p ≡ note_at s p
     found_same e =
         let hold = found_hold s p e in
         let lies = within_sum (length s) (descriptor_at p) 4 hold.1.1.0 in
@@ -158,21 +151,18 @@ module _ (s t : List ℕ) (Lifts : Refusal → Type 0) (lifts : (t ≡ []) ⊎ L
       pick_same (LiftNote Lifts) _ _ refl
       (λ _. turn_after Lifts (note_at s (from + read)) (note_at (s ++ t) (from + read)) (suc headers) (turn_longer (from + read)) (λ place size e. found_same (from + read) e) (λ k. walk_longer left from size (read + k) (suc headers))) (λ _. same)
 
-  note_kept : (from : ImagePlace) (size : ℕ) → Keeps (LiftNote Lifts) (entry_of s from size) (entry_of (s ++ t) from size)
+  pub entry_longer : (from : ImagePlace) (size : ℕ) → Keeps (LiftNote Lifts) (entry_of s from size) (entry_of (s ++ t) from size)
   unfolding entry_of
-  note_kept from size = walk_longer (twelves size) from.0 size 0 0
-
-  pub entry_longer : (from : ImagePlace) (size : ℕ) → Keeps (LiftSaid Lifts) (entry_of s from size).answer (entry_of (s ++ t) from size).answer
-  entry_longer from size = keeps_map (λ (n : ElfNote). n.answer) (note_kept from size) (λ l. l)
+  entry_longer from size = walk_longer (twelves size) from.0 size 0 0
 
   public_longer : (from : ImagePlace) (size : ℕ) → length (s ++ t) ≤ longest → Keeps (LiftNote Lifts) (public_note s from size) (public_note (s ++ t) from size)
   unfolding public_note
-  public_longer from size short = pick_same (LiftNote Lifts) _ _ (allowed_longer s t short) (λ _. note_kept from size) (λ _. same)
+  public_longer from size short = pick_same (LiftNote Lifts) _ _ (allowed_longer s t short) (λ _. entry_longer from size) (λ _. same)
 
-short_of_bytes : {said : NoteAnswer} → LiftSaid (λ r. r ≡ ReadNoteHeader) said → said ≡ answer.Refused ReadNoteHeader
-short_of_bytes (lift_said e) = ap answer.Refused e
+short_of_bytes : {said : NoteAnswer} → LiftNote (λ r. r ≡ ReadNoteHeader) said → said ≡ Err ReadNoteHeader
+short_of_bytes (lift_note e) = ap Err e
 
 pub note_longer : (image bytes : List ℕ) (from : ImagePlace) (size : ℕ) → length (image ++ bytes) ≤ longest
-    → ((public_note image from size).answer ≡ answer.Refused ReadNoteHeader → ⊥) → public_note (image ++ bytes) from size ≡ public_note image from size
+    → (public_note image from size ≡ Err ReadNoteHeader → ⊥) → public_note (image ++ bytes) from size ≡ public_note image from size
 note_longer image bytes from size short other =
     kept (LiftNote (λ r. r ≡ ReadNoteHeader)) (public_longer image bytes (λ r. r ≡ ReadNoteHeader) (inr refl) from size short) (λ l. other (short_of_bytes l))

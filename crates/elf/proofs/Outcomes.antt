@@ -20,7 +20,7 @@ use Rattle.elf.proofs.memory.memory.Reads as memory_reads
 pub parse_elf_note_one : OneOutcome 1 parse_elf_note_kinds.ps parse_elf_note_kinds.r parse_elf_note_reads.Post
 parse_elf_note_one κs a z z' ws ws' p q = (meet p q, refl)
 
-pub parts_plan_one : OneOutcome 1 parts_plan_kinds.ps parts_plan_kinds.r parts_plan_reads.Post
+pub parts_plan_one : OneOutcome 2 parts_plan_kinds.ps parts_plan_kinds.r parts_plan_reads.Post
 parts_plan_one κs a z z' ws ws' p q = (meet p q, refl)
 
 pub parts_count_one : OneOutcome 1 parts_count_kinds.ps parts_count_kinds.r parts_count_reads.Post

@@ -1,10 +1,13 @@
 -- Laws of the parts of a load.
+use Rattle.std.specs.Prelude.{Ok, Err, Option}
+use Rattle.guest.specs.declared.GuestAddress.{GuestAddress}
+use Rattle.guest.specs.Answers.{Answer}
 use Prim.Native.Nat.{ℕ, zero, suc, ◌+◌, ◌*◌, ◌≤◌, ◌<◌}
-use mathlib.Core.Path.{◌≡◌, sym, ◌∙◌, refl, ap, subst, subst⁻¹}
+use mathlib.Core.Path.{◌≡◌, sym, ◌∙◌, refl, ap, subst⁻¹}
 use mathlib.Core.List.{List, []}
 use native.Mathlib.Omega.{arith}
 use native.Mathlib.Decide.{dec_le, ℕ_discrete}
-use borrow.Author.Tests.{eq-eqb, ne_eqb, lt-ltb, le-ltb, eqb-true}
+use borrow.Author.Tests.{eq-eqb, ne_eqb, lt-ltb, eqb-true}
 use lib.ListN.{length}
 use Rattle.answers.specs.Pick.{pick}
 use Rattle.answers.specs.declared.Refusal.{Refusal}
@@ -12,9 +15,6 @@ use Rattle.answers.proofs.PickLaws.{pick_with}
 use Rattle.fields.proofs.RangesLaws.{sum_within}
 use Rattle.guest.specs.Addresses.{amount_of}
 use Rattle.guest.specs.Parts.{part_stream, no_part, parts_from, Fits}
-use Rattle.guest.specs.declared.Answer.{Answer}
-use Rattle.guest.specs.declared.Answer.TheVariants.{Loaded, Refused}
-use Rattle.guest.specs.declared.Given.{Given}
 use Rattle.guest.specs.declared.KernelLoaderResult.{KernelLoaderResult}
 use Rattle.guest.specs.declared.Memory.{Memory}
 use Rattle.guest.specs.declared.Part.{Part}
@@ -29,19 +29,9 @@ use Rattle.elf.specs.declared.program_headers.ProgramHeader.{ProgramHeader}
 use Rattle.elf.proofs.FitsLaws.{accepted_stand, accepted_fit}
 use Rattle.elf.proofs.PouringLaws.{stream_none, stream_empty, stream_loads, plan_stream}
 
--- the part of any number, as code works it out
-module _ (image : List ℕ) (offset : Given) (i : ℕ) where
-  pub part_past : {n : ℕ} {r : Part} → n ≡ e_phnum_of image → n ≤ i → r ≡ no_part → r ≡ part_of image offset i
-  unfolding part_of pick
-  part_past en past er = rw (le-ltb i (e_phnum_of image) (subst (λ x. x ≤ i) en past)) er
-
-  pub part_below : {n shift : ℕ} {r : Part} → n ≡ e_phnum_of image → i < n → shift ≡ amount_of offset → r ≡ part_at image shift i → r ≡ part_of image offset i
-  unfolding part_of pick
-  part_below en lt es er = rw (lt-ltb i (e_phnum_of image) (subst (λ x. i < x) en lt), er, es)
-
 -- ---- of an accepted load the parts fit
 
-module _ (image : List ℕ) (m : Memory) (offset highmem : Given) (ok : Accepted (plan_of image m offset highmem).answer) where
+module _ (image : List ℕ) (m : Memory) (offset highmem : Option GuestAddress) (ok : Accepted (plan_of image m offset highmem).answer) where
   header_fits : (h : ProgramHeader) → SegmentFits (length image) m (amount_of offset) h → Fits (length image) m (header_part (amount_of offset) h)
   unfolding header_part
   header_fits h fits =
@@ -83,7 +73,7 @@ module _ (image : List ℕ) (m : Memory) (shift : ℕ) (h : ProgramHeader) where
           empty_stream image (header_part shift h) (size_zero (omega arith)) ∙ sym (stream_empty image shift h (omega arith))
       split (yes loads) (yes some) = fitting_same loads (fits loads some)
 
-module _ (image : List ℕ) (m : Memory) (offset : Given) where
+module _ (image : List ℕ) (m : Memory) (offset : Option GuestAddress) where
   part_same : (i : ℕ) → i < e_phnum_of image → header_place image i + program_header_size ≤ length image
       → SegmentFits (length image) m (amount_of offset) (header_of image i)
       → part_stream image (part_of image offset i) ≡ segment_stream image (amount_of offset) (header_of image i)
@@ -101,19 +91,19 @@ module _ (image : List ℕ) (m : Memory) (offset : Given) where
       rw (part_same i (omega arith) (stands i (omega arith)) (fits i (omega arith)), parts_same k (suc i) (omega arith) stands fits)
 
 -- so what is written is the bytes of the segments
-pub parts_whole : (image : List ℕ) (m : Memory) (offset highmem : Given) → Accepted (plan_of image m offset highmem).answer
+pub parts_whole : (image : List ℕ) (m : Memory) (offset highmem : Option GuestAddress) → Accepted (plan_of image m offset highmem).answer
     → parts_from (e_phnum_of image) image (part_of image offset) 0 ≡ whole_stream image offset
 unfolding whole_stream
 parts_whole image m offset highmem ok =
     parts_same image m offset (e_phnum_of image) 0 (omega arith) (accepted_stand image m offset highmem ok).stands (accepted_fit image m offset highmem ok)
 
 -- the stream of a plan, by its answer
-module _ (image : List ℕ) (m : Memory) (offset highmem : Given) where
-  pub parts_written : {k : KernelLoaderResult} → (plan_of image m offset highmem).answer ≡ Loaded k
+module _ (image : List ℕ) (m : Memory) (offset highmem : Option GuestAddress) where
+  pub parts_written : {k : KernelLoaderResult} → (plan_of image m offset highmem).answer ≡ Ok k
       → parts_from (e_phnum_of image) image (part_of image offset) 0 ≡ (plan_of image m offset highmem).stream
   parts_written is =
       parts_whole image m offset highmem (subst⁻¹ Accepted is is_accepted)
       ∙ sym (plan_stream image m offset highmem ∙ ap (λ (a : Answer). if_loaded a (whole_stream image offset)) is)
 
-  pub none_written : {r : Refusal} → (plan_of image m offset highmem).answer ≡ Refused r → (plan_of image m offset highmem).stream ≡ []
+  pub none_written : {r : Refusal} → (plan_of image m offset highmem).answer ≡ Err r → (plan_of image m offset highmem).stream ≡ []
   none_written is = plan_stream image m offset highmem ∙ ap (λ (a : Answer). if_loaded a (whole_stream image offset)) is

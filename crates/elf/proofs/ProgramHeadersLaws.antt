@@ -1,6 +1,6 @@
 -- Laws of program headers.
-use Prim.Native.Nat.{ℕ, ◌+◌, ◌-◌, ◌*◌, ◌≤◌}
-use mathlib.Core.Path.{◌≡◌, ap}
+use Prim.Native.Nat.{ℕ, ◌+◌, ◌-◌, ◌≤◌}
+use mathlib.Core.Path.{◌≡◌}
 use mathlib.Core.List.{List}
 use borrow.Author.Tests.{le-ltb}
 use native.Mathlib.Omega.{arith}
@@ -9,16 +9,16 @@ use lib.ListN.{length, take, drop, length-take, length-drop}
 use Rattle.answers.specs.Pick.{pick}
 use Rattle.fields.specs.Numbers.{le}
 use Rattle.fields.proofs.NumbersLaws.{le_within}
-use Rattle.elf.specs.Header.{e_phoff_of, program_header_size}
+use Rattle.elf.specs.Header.{program_header_size}
 use Rattle.elf.specs.Parts.{header_part, own_part}
-use Rattle.elf.specs.ProgramHeaders.{header_at, header_of}
+use Rattle.elf.specs.ProgramHeaders.{header_at}
 
 -- a program header, read in its own bytes
 module _ (image : List ℕ) (place : ℕ) where
   abbrev own : List ℕ
   own = take (place + program_header_size - place) (drop place image)
 
-  field_own : (n p : ℕ) → p + n ≤ program_header_size → le n own p ≡ le n image (place + p)
+  pub field_own : (n p : ℕ) → p + n ≤ program_header_size → le n own p ≡ le n image (place + p)
   field_own n p h = le_within n place (place + program_header_size - place) image p (omega arith)
 
   pub header_own : header_at own 0 ≡ header_at image place
@@ -39,6 +39,3 @@ module _ (image : List ℕ) (place : ℕ) where
   own_part_lem shift h =
       let long : 56 ≤ length own = omega (arith, length-take (place + program_header_size - place) (drop place image), length-drop place image) in
       rw (le-ltb (length own) 56 long, header_own)
-
-pub header_read : (image : List ℕ) (phoff i : ℕ) → phoff ≡ e_phoff_of image → header_at image (phoff + program_header_size * i) ≡ header_of image i
-header_read image phoff i given = ap (λ (from : ℕ). header_at image (from + program_header_size * i)) given

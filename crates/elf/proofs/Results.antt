@@ -1,6 +1,8 @@
 -- The results of an accepted load: "load address is e_entry, plus the offset if given"; the kernel end is the greatest end of a loadable segment's
 -- memory, one without file bytes among them, so that what is put there does not fall into memory that the kernel clears; "the first note found now
 -- holds: a later plain note no longer clears it", and with an offset PVH is ignored.
+use Rattle.std.specs.Prelude.{Ok, Err, Option, Result}
+use Rattle.guest.specs.declared.GuestAddress.{GuestAddress}
 use Prim.Native.Nat.{ℕ, zero, suc, ◌+◌, ◌≤◌, ◌<◌, max}
 use mathlib.Core.Path.{◌≡◌, sym, ◌∙◌, refl, ap, subst, subst⁻¹}
 use mathlib.Core.Bool.{Bool, true, false}
@@ -11,48 +13,38 @@ use native.Mathlib.Decide.{dec_le}
 use native.Mathlib.Nat.{zero-add}
 use borrow.Author.Tests.{eqb-true, eqb-false, leb-true}
 use lib.ListN.{length}
-use Rattle.answers.specs.Tests.{Test, asked_all, AllHold}
-use Rattle.answers.specs.declared.Gate.{Gate}
-use Rattle.answers.specs.declared.Gate.TheVariants.{Open, Shut}
+use Rattle.answers.specs.Tests.{Test, asked_all, AllHold, Check, pass}
 use Rattle.answers.specs.declared.Refusal.{Refusal}
 use Rattle.answers.proofs.PickLaws.{pick_with}
 use Rattle.answers.proofs.TestsLaws.{open_all}
 use Rattle.guest.specs.Addresses.{amount_of, is_given}
-use Rattle.guest.specs.Answers.{answer_number, answer_values}
+use Rattle.guest.specs.Answers.{answer_number, answer_values, Answer}
 use Rattle.guest.specs.Room.{room, memory_of}
-use Rattle.guest.specs.declared.Given.{Given}
 use Rattle.guest.specs.declared.Map.{Map}
 use Rattle.guest.specs.declared.PvhNote.{PvhNote}
 use Rattle.guest.specs.declared.PvhBootCapability.{PvhBootCapability}
 use Rattle.guest.specs.declared.PvhBootCapability.TheVariants as pvh
 use Rattle.guest.specs.declared.KernelLoaderResult.{KernelLoaderResult}
-use Rattle.guest.specs.declared.Answer.{Answer}
-use Rattle.guest.specs.declared.Answer.TheVariants.{Loaded, Refused}
 use Rattle.elf.specs.Header.{e_phnum_of}
 use Rattle.elf.specs.ProgramHeaders.{header_of}
-use Rattle.elf.specs.Notes.{note_at}
+use Rattle.elf.specs.Notes.{note_at, NoteAnswer, said_of}
 use Rattle.elf.specs.NoteWalk.{turn_at, after_turn, walk_from, twelves, entry_of}
 use Rattle.elf.specs.Survey.{Rooms, segment_tests, memory_tests, end_of, step_by, load_step, said_step, note_step, step_of, first_found, advanced, blank, load_address, survey_of}
 use Rattle.elf.specs.Load.{LoadSays}
 use Rattle.elf.specs.Results.{HasMemory, IsEnd, GreatestEnd, GivesNote, NoneGives, FirstGives, SomeNotes, PvhIs, present, not_present, with_offset, no_notes, ResultIs, ElfValues}
 use Rattle.elf.specs.Verdict.{Accepted, is_accepted}
-use Rattle.elf.specs.declared.NoteAnswer.{NoteAnswer}
-use Rattle.elf.specs.declared.NoteAnswer.TheVariants as answer
-use Rattle.elf.specs.declared.ElfNote.{ElfNote}
 use Rattle.elf.specs.declared.notes.Turn.{Turn}
 use Rattle.elf.specs.declared.notes.Turn.TheVariants as turn
 use Rattle.elf.specs.declared.program_headers.ProgramHeader.{ProgramHeader}
 use Rattle.elf.specs.declared.survey.Effect.{Effect}
 use Rattle.elf.specs.declared.survey.Effect.TheVariants as effect
-use Rattle.elf.specs.declared.survey.Step.{Step}
-use Rattle.elf.specs.declared.survey.Step.TheVariants.{Pass, Stop}
 use Rattle.elf.proofs.EveryRule.{accept_rules, both_ways, positive}
 use Rattle.elf.proofs.SurveyLaws.{survey_with}
 use Rattle.elf.proofs.Verdicts.{by_headers}
 
 -- ---- what a program header that passes changes
 
-data Changes (image : List ℕ) (offset : Given) (h : ProgramHeader) : Effect → Type 0 where
+data Changes (image : List ℕ) (offset : Option GuestAddress) (h : ProgramHeader) : Effect → Type 0 where
   ends : HasMemory h → Changes image offset h (effect.EndsAt (end_of (amount_of offset) h))
   nothing : (HasMemory h → ⊥) → (h.p_type ≡ 4 → ⊥) → Changes image offset h effect.Nothing
   ignored : h.p_type ≡ 4 → is_given offset ≡ true → Changes image offset h (effect.Pvh pvh.PvhEntryIgnored)
@@ -60,22 +52,22 @@ data Changes (image : List ℕ) (offset : Given) (h : ProgramHeader) : Effect �
   not_found : h.p_type ≡ 4 → is_given offset ≡ false → ((note : PvhNote) → GivesNote image offset h note → ⊥)
       → Changes image offset h (effect.Pvh pvh.PvhEntryNotPresent)
 
-data Passed (P : Effect → Type 0) : Step → Type 0 where
-  passes : {e : Effect} → P e → Passed P (Pass e)
-  stops : {r : Refusal} → Passed P (Stop r)
+data Passed (P : Effect → Type 0) : Result Effect Refusal → Type 0 where
+  passes : {e : Effect} → P e → Passed P (Ok e)
+  stops : {r : Refusal} → Passed P (Err r)
 
-of_passed : {P : Effect → Type 0} {t : Step} {e : Effect} → Passed P t → t ≡ Pass e → P e
+of_passed : {P : Effect → Type 0} {t : Result Effect Refusal} {e : Effect} → Passed P t → t ≡ Ok e → P e
 of_passed {P} {e = e} (passes {e = x} p) is = let same : x ≡ e = cc in subst P same p
 of_passed (stops {r}) is = let w : ◌≡◌ {A = ℕ} 0 1 = cc in absurd (omega arith)
 
 -- a note walk finds the note or not; it does not ignore it
-abbrev NotIgnored : ElfNote → Type 0
-NotIgnored note = note.answer ≡ answer.Says pvh.PvhEntryIgnored → ⊥
+abbrev NotIgnored : NoteAnswer → Type 0
+NotIgnored note = said_of note ≡ Ok pvh.PvhEntryIgnored → ⊥
 
-after_not : (note : PvhNote) (t : Turn) (headers : ℕ) (more : ℕ → ElfNote) → ((k : ℕ) → NotIgnored (more k)) → NotIgnored (after_turn note t headers more)
-after_not note (turn.Found place size) headers more rest = λ e. let w : ◌≡◌ {A = ℕ} 0 1 = cc in omega arith
-after_not note (turn.Skip k) headers more rest = rest k
-after_not note (turn.Refused r) headers more rest = λ e. let w : ◌≡◌ {A = ℕ} 0 1 = cc in omega arith
+after_not : (note : PvhNote) (t : Result Turn Refusal) (headers : ℕ) (more : ℕ → NoteAnswer) → ((k : ℕ) → NotIgnored (more k)) → NotIgnored (after_turn note t headers more)
+after_not note (Ok (turn.Found place size)) headers more rest = λ e. let w : ◌≡◌ {A = ℕ} 0 1 = cc in omega arith
+after_not note (Ok (turn.Skip k)) headers more rest = rest k
+after_not note (Err r) headers more rest = λ e. let w : ◌≡◌ {A = ℕ} 0 1 = cc in omega arith
 
 walk_not : (left : ℕ) (image : List ℕ) (from size read headers : ℕ) → NotIgnored (walk_from left image from size read headers)
 unfolding walk_from
@@ -85,19 +77,19 @@ walk_not (suc left) image from size read headers =
     (λ _. after_not (note_at image (from + read)) (turn_at image (from + read)) (suc headers) (λ k. walk_from left image from size (read + k) (suc headers)) (λ k. walk_not left image from size (read + k) (suc headers)))
     (λ _ e. let w : ◌≡◌ {A = ℕ} 0 1 = cc in omega arith)
 
-module _ (image : List ℕ) (hasRoom : Rooms) (offset : Given) (h : ProgramHeader) where
-  abbrev T : Step → Type 0
+module _ (image : List ℕ) (hasRoom : Rooms) (offset : Option GuestAddress) (h : ProgramHeader) where
+  abbrev T : Result Effect Refusal → Type 0
   T = Passed (Changes image offset h)
 
   abbrev said : NoteAnswer
-  said = (entry_of image h.p_offset h.p_filesz).answer
+  said = entry_of image h.p_offset h.p_filesz
 
-  by_tests : (ts : List Test) → (AllHold ts → HasMemory h) → T (step_by (asked_all Open ts) (end_of (amount_of offset) h))
-  by_tests ts memory = by (asked_all Open ts) refl
+  by_tests : (ts : List Test) → (AllHold ts → HasMemory h) → T (step_by (asked_all pass ts) (end_of (amount_of offset) h))
+  by_tests ts memory = by (asked_all pass ts) refl
     where
-      by : (gate : Gate) → asked_all Open ts ≡ gate → T (step_by gate (end_of (amount_of offset) h))
-      by Open e = passes (ends (memory (open_all ts e)))
-      by (Shut r) e = stops
+      by : (gate : Check) → asked_all pass ts ≡ gate → T (step_by gate (end_of (amount_of offset) h))
+      by (Ok _) e = passes (ends (memory (open_all ts e)))
+      by (Err r) e = stops
 
   load_changes : h.p_type ≡ 1 → T (load_step (length image) hasRoom (amount_of offset) h)
   unfolding load_step
@@ -112,13 +104,16 @@ module _ (image : List ℕ) (hasRoom : Rooms) (offset : Given) (h : ProgramHeade
       (λ all. let some = positive h.p_filesz (eqb-false h.p_filesz 0 file) in let sized = leb-true h.p_filesz h.p_memsz all.0 in
       record { loadable = is-1; some = omega arith }))
 
-  said_changes : h.p_type ≡ 4 → is_given offset ≡ false → (a : NoteAnswer) → said ≡ a → T (said_step a)
+  pvh_changes : h.p_type ≡ 4 → is_given offset ≡ false → (pvh_boot_cap : PvhBootCapability) → said_of said ≡ Ok pvh_boot_cap → T (Ok (effect.Pvh pvh_boot_cap))
   unfolding entry_of
-  said_changes is-4 none (answer.Says (pvh.PvhEntryPresent note)) e = passes (found (record { is_note = is-4; no_offset = none; walked = e }))
-  said_changes is-4 none (answer.Says pvh.PvhEntryNotPresent) e =
+  pvh_changes is-4 none (pvh.PvhEntryPresent note) e = passes (found (record { is_note = is-4; no_offset = none; walked = e }))
+  pvh_changes is-4 none pvh.PvhEntryNotPresent e =
       passes (not_found is-4 none (λ note g. let both = sym e ∙ g.walked in let w : ◌≡◌ {A = ℕ} 0 1 = cc in omega arith))
-  said_changes is-4 none (answer.Says pvh.PvhEntryIgnored) e = absurd (walk_not (twelves h.p_filesz) image h.p_offset.0 h.p_filesz 0 0 e)
-  said_changes is-4 none (answer.Refused r) e = stops
+  pvh_changes is-4 none pvh.PvhEntryIgnored e = absurd (walk_not (twelves h.p_filesz) image h.p_offset.0 h.p_filesz 0 0 e)
+
+  said_changes : h.p_type ≡ 4 → is_given offset ≡ false → (a : NoteAnswer) → said ≡ a → T (said_step a)
+  said_changes is-4 none (Ok note) e = pvh_changes is-4 none note.pvh (ap said_of e)
+  said_changes is-4 none (Err r) e = stops
 
   step_changes : T (step_of image hasRoom offset h)
   unfolding step_of note_step
@@ -139,7 +134,7 @@ up_to P n below here k lt = split (dec_le (suc k) n)
     split (yes h) = below k h
     split (no h) = subst P (let same : n ≡ k = omega arith in same) here
 
-module _ (image : List ℕ) (offset : Given) (i : ℕ) where
+module _ (image : List ℕ) (offset : Option GuestAddress) (i : ℕ) where
   abbrev this : ProgramHeader
   this = header_of image i
 
@@ -219,7 +214,7 @@ module _ (image : List ℕ) (offset : Given) (i : ℕ) where
   one_more (not_found is-4 lacks here) r = record { load = r.load; end = end_same (no_memory is-4) r.end; pvh = pvh_not_found is-4 lacks here r.pvh }
 
 -- before any program header
-at_first : (image : List ℕ) (offset : Given) → ResultIs image offset 0 (blank (load_address image offset))
+at_first : (image : List ℕ) (offset : Option GuestAddress) → ResultIs image offset 0 (blank (load_address image offset))
 at_first image offset =
     record { load = refl; end = record { covers = λ k lt _. absurd (omega arith); attained = inl refl }; pvh = by (is_given offset) refl }
   where
@@ -229,21 +224,21 @@ at_first image offset =
 
 -- ---- the load
 
-module _ (image : List ℕ) (offset highmem : Given) (map : Map) (before after : List ℕ) {r : Answer} (says : LoadSays image offset highmem map before r after) where
-  surveyed : {result : KernelLoaderResult} → r ≡ Loaded result → survey_of image (room (memory_of before map)) offset ≡ Loaded result
+module _ (image : List ℕ) (offset highmem : Option GuestAddress) (map : Map) (before after : List ℕ) {r : Answer} (says : LoadSays image offset highmem map before r after) where
+  surveyed : {result : KernelLoaderResult} → r ≡ Ok result → survey_of image (room (memory_of before map)) offset ≡ Ok result
   surveyed loaded =
       let is = sym says.answer ∙ loaded in
       let ok = accept_rules image (memory_of before map) offset highmem (subst Accepted (sym is) is_accepted) in
       sym (by_headers image (memory_of before map) offset highmem ok.before) ∙ is
 
-  pub results : {result : KernelLoaderResult} → r ≡ Loaded result → ResultIs image offset (e_phnum_of image) result
+  pub results : {result : KernelLoaderResult} → r ≡ Ok result → ResultIs image offset (e_phnum_of image) result
   results {result} loaded =
       subst (λ n. ResultIs image offset n result) (zero-add (e_phnum_of image))
       (survey_with image (room (memory_of before map)) offset (ResultIs image offset)
       (λ i x e passed. one_more image offset i (of_passed (step_changes image (room (memory_of before map)) offset (header_of image i)) passed))
       (e_phnum_of image) 0 (blank (load_address image offset)) (at_first image offset) (surveyed loaded))
 
-  values : {result : KernelLoaderResult} → ResultIs image offset (e_phnum_of image) result → r ≡ Loaded result
+  values : {result : KernelLoaderResult} → ResultIs image offset (e_phnum_of image) result → r ≡ Ok result
       → (answer_number r ≡ 0) × ElfValues image offset (answer_values r)
   unfolding answer_number answer_values
   values {result} is loaded = (
@@ -261,5 +256,5 @@ module _ (image : List ℕ) (offset highmem : Given) (map : Map) (before after :
   accepted_values ok = by r ok refl
     where
       by : (a : Answer) → Accepted a → r ≡ a → (answer_number r ≡ 0) × ElfValues image offset (answer_values r)
-      by (Refused _) x3 loaded = elim x3 [ ]
-      by (Loaded result) is_accepted loaded = values (results loaded) loaded
+      by (Err _) x3 loaded = elim x3 [ ]
+      by (Ok result) is_accepted loaded = values (results loaded) loaded

@@ -1,8 +1,8 @@
 -- The bytes of an image that the plan of a load looks at: the header, the program headers, and the notes as far as the walk may go.
-use Rattle.std.specs.Prelude.{ℕ, ◌+◌, ◌*◌, ◌<◌, ◌≡◌, false, List, length}
+use Rattle.guest.specs.declared.GuestAddress.{GuestAddress}
+use Rattle.std.specs.Prelude.{ℕ, ◌+◌, ◌*◌, ◌<◌, ◌≡◌, false, List, length, Option}
 use Rattle.fields.specs.Agreement.{Agree}
 use Rattle.guest.specs.Addresses.{is_given}
-use Rattle.guest.specs.declared.Given.{Given}
 use Rattle.elf.specs.Header.{e_phoff_of, e_phnum_of, header_size, program_header_size}
 use Rattle.elf.specs.ProgramHeaders.{header_of}
 use Rattle.elf.specs.declared.program_headers.ProgramHeader.{ProgramHeader}
@@ -17,7 +17,7 @@ abbrev pub SameNotes : List ℕ → List ℕ → ProgramHeader → Type 0
 SameNotes s t h = h.p_type ≡ 4 → 0 < h.p_filesz → Agree s t h.p_offset.0 (h.p_filesz + note_reach)
 
 -- two images of one length that hold the same bytes there; with an offset notes are not walked
-pub record SameFootprint (s t : List ℕ) (offset : Given) : Type 0 where
+pub record SameFootprint (s t : List ℕ) (offset : Option GuestAddress) : Type 0 where
   pub lengths : length s ≡ length t
   pub header : Agree s t 0 header_size
   pub program_headers : Agree s t (e_phoff_of s) (program_header_size * e_phnum_of s)

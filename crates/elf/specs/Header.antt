@@ -1,5 +1,6 @@
 -- The ELF64 header: its fields at their places, and the tests before the program headers.
-use Rattle.std.specs.Prelude.{ℕ, ◌*◌, Bool, true, List, [], ◌∷◌, ◌++◌, leb, eqb, length}
+use Rattle.guest.specs.declared.GuestAddress.{GuestAddress}
+use Rattle.std.specs.Prelude.{ℕ, ◌*◌, Bool, true, List, [], ◌∷◌, ◌++◌, leb, eqb, length, Option}
 use Rattle.answers.specs.Pick.{pick}
 use Rattle.answers.specs.Tests.{Test}
 use Rattle.answers.specs.declared.Refusal.TheVariants as refusal
@@ -8,7 +9,6 @@ use Rattle.fields.specs.Ranges.{lies_within, fits64}
 use Rattle.fields.specs.Tags.{tag_at}
 use Rattle.guest.specs.Addresses.{amount_of}
 use Rattle.guest.specs.Lent.{lent_tests}
-use Rattle.guest.specs.declared.Given.{Given}
 use Rattle.guest.specs.declared.Memory.{Memory}
 
 -- the sizes of the header and of a program header
@@ -57,7 +57,7 @@ file_tests image =
     ∷ []
 
 -- the entry point, and the load address
-abbrev pub entry_tests : List ℕ → Given → Given → List Test
+abbrev pub entry_tests : List ℕ → Option GuestAddress → Option GuestAddress → List Test
 entry_tests image offset highmem =
     (leb (amount_of highmem) (e_entry_of image), refusal.InvalidEntryAddress)
     ∷ (fits64 (amount_of offset) (e_entry_of image), refusal.Overflow)
@@ -68,13 +68,13 @@ abbrev pub stand_tests : List ℕ → List Test
 stand_tests image = (stand_within (length image) (e_phoff_of image) (e_phnum_of image), refusal.ReadProgramHeader) ∷ []
 
 -- the fields of the header, in order
-abbrev pub field_tests : List ℕ → Given → Given → List Test
+abbrev pub field_tests : List ℕ → Option GuestAddress → Option GuestAddress → List Test
 field_tests image offset highmem = file_tests image ++ entry_tests image offset highmem ++ stand_tests image
 
 -- the tests of the header: that it stands in the image, then its fields
-abbrev pub header_tests : List ℕ → Given → Given → List Test
+abbrev pub header_tests : List ℕ → Option GuestAddress → Option GuestAddress → List Test
 header_tests image offset highmem = length_tests image ++ field_tests image offset highmem
 
 -- the tests before the program headers: of what is lent, then of the header
-abbrev pub tests : List ℕ → Memory → Given → Given → List Test
+abbrev pub tests : List ℕ → Memory → Option GuestAddress → Option GuestAddress → List Test
 tests image m offset highmem = lent_tests (length image) m ++ header_tests image offset highmem

@@ -1,11 +1,11 @@
 -- The guest memory that the segments of a load take, one range for each program header.
-use Rattle.std.specs.Prelude.{ℕ, ◌+◌, ◌*◌, List, ltb, eqb, length}
+use Rattle.guest.specs.declared.GuestAddress.{GuestAddress}
+use Rattle.std.specs.Prelude.{ℕ, ◌+◌, ◌*◌, List, ltb, eqb, length, Option}
 use Rattle.answers.specs.Pick.{pick}
 use Rattle.fields.specs.Ranges.{lies_within, fits64}
 use Rattle.guest.specs.Addresses.{amount_of}
 use Rattle.guest.specs.Extents.{no_extent}
 use Rattle.guest.specs.declared.Extent.{Extent}
-use Rattle.guest.specs.declared.Given.{Given}
 use Rattle.elf.specs.Header.{e_phoff_of, e_phnum_of, program_header_size}
 use Rattle.elf.specs.ProgramHeaders.{header_of}
 use Rattle.elf.specs.declared.program_headers.ProgramHeader.{ProgramHeader}
@@ -27,5 +27,5 @@ memory_at image shift i =
     no_extent
 
 -- of program header i of a load: from the count of program headers on there is none
-unfoldable pub memory_of : List ℕ → Given → ℕ → Extent
+unfoldable pub memory_of : List ℕ → Option GuestAddress → ℕ → Extent
 memory_of image offset i = pick (ltb i (e_phnum_of image)) (memory_at image (amount_of offset) i) no_extent

@@ -1,5 +1,6 @@
--- The notes of a program header, and what a walk over them answers, said without a bound on the walk. The walk itself is in NoteWalk.
-use Rattle.std.specs.Prelude.{ℕ, suc, ◌+◌, ◌≤◌, ◌<◌, ◌≡◌, Bool, true, false, List, [], ◌∷◌, leb, eqb, length}
+-- The notes of a program header, and what a walk over them returns, however long it is. `NoteWalk` has the walk itself,
+-- with a bound on its length.
+use Rattle.std.specs.Prelude.{ℕ, suc, ◌+◌, ◌≤◌, ◌<◌, ◌≡◌, Bool, true, false, List, [], ◌∷◌, leb, eqb, length, Ok, Err, Result}
 use Rattle.answers.specs.Pick.{pick}
 use Rattle.answers.specs.Tests.{Test, AllHold, FirstFails}
 use Rattle.answers.specs.declared.Refusal.{Refusal}
@@ -11,10 +12,10 @@ use Rattle.fields.specs.Tags.{tag_at}
 use Rattle.guest.specs.Sizes.{allowed}
 use Rattle.guest.specs.declared.ImagePlace.{ImagePlace}
 use Rattle.guest.specs.declared.PvhNote.{PvhNote}
+use Rattle.guest.specs.declared.PvhBootCapability.{PvhBootCapability}
 use Rattle.guest.specs.declared.PvhBootCapability.TheVariants as pvh
 use Rattle.reading.specs.Notes.{note_header_of}
 use Rattle.reading.specs.declared.NoteHeader.{NoteHeader}
-use Rattle.elf.specs.declared.NoteAnswer.TheVariants as answer
 use Rattle.elf.specs.declared.ElfNote.{ElfNote}
 
 -- ---- one note: twelve bytes of header, its name, its descriptor
@@ -82,23 +83,28 @@ pub data PassedOver (image : List ℕ) (from size : ℕ) : ℕ → ℕ → Type 
   one_more : {j read : ℕ} → PassedOver image from size j read → read < size → AllHold (note_tests image (from + read))
       → is_pvh_note image (from + read) ≡ false → PassedOver image from size (suc j) (read + note_length (note_header_of image (from + read)))
 
--- a refusal, with no count
-abbrev pub refused_note : Refusal → ElfNote
-refused_note r = record { answer = answer.Refused r; headers = 0 }
+-- what a walk returns: the entry, if there is one, and the count of the headers that were read; a refusal has no count
+abbrev pub NoteAnswer : Type 0
+NoteAnswer = Result ElfNote Refusal
+
+-- of it, what is said of the entry
+abbrev pub said_of : NoteAnswer → Result PvhBootCapability Refusal
+said_of (Ok note) = Ok note.pvh
+said_of (Err r) = Err r
 
 -- the PVH note at p, the j-th note that is read
-abbrev pub found_note : List ℕ → ℕ → ℕ → ElfNote
-found_note image p j = record { answer = answer.Says (pvh.PvhEntryPresent (note_at image p)); headers = j }
+abbrev pub found_note : List ℕ → ℕ → ℕ → NoteAnswer
+found_note image p j = Ok (record { pvh = pvh.PvhEntryPresent (note_at image p); headers = j })
 
 -- none among j notes
-abbrev pub no_entry : ℕ → ElfNote
-no_entry j = record { answer = answer.Says pvh.PvhEntryNotPresent; headers = j }
+abbrev pub no_entry : ℕ → NoteAnswer
+no_entry j = Ok (record { pvh = pvh.PvhEntryNotPresent; headers = j })
 
 -- which rule decides: the image's length, the first note that is not passed over, or none
-pub data NoteVerdict (image : List ℕ) (from size : ℕ) : ElfNote → Type 0 where
-  too_long : allowed (length image) ≡ false → NoteVerdict image from size (refused_note refusal.SliceTooLong)
+pub data NoteVerdict (image : List ℕ) (from size : ℕ) : NoteAnswer → Type 0 where
+  too_long : allowed (length image) ≡ false → NoteVerdict image from size (Err refusal.SliceTooLong)
   refused : {j read : ℕ} {r : Refusal} → allowed (length image) ≡ true → PassedOver image from size j read → read < size
-      → FirstFails r (note_tests image (from + read)) → NoteVerdict image from size (refused_note r)
+      → FirstFails r (note_tests image (from + read)) → NoteVerdict image from size (Err r)
   found : {j read : ℕ} → allowed (length image) ≡ true → PassedOver image from size j read → read < size
       → AllHold (note_tests image (from + read)) → is_pvh_note image (from + read) ≡ true → NoteVerdict image from size (found_note image (from + read) (suc j))
   not_found : {j read : ℕ} → allowed (length image) ≡ true → PassedOver image from size j read → size ≤ read → NoteVerdict image from size (no_entry j)

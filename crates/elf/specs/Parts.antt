@@ -1,10 +1,10 @@
 -- The parts of a load, one for each program header; of any image, since a later step may meet another one than the first.
-use Rattle.std.specs.Prelude.{ℕ, ◌+◌, ◌*◌, List, ltb, eqb, length}
+use Rattle.guest.specs.declared.GuestAddress.{GuestAddress}
+use Rattle.std.specs.Prelude.{ℕ, ◌+◌, ◌*◌, List, ltb, eqb, length, Option}
 use Rattle.answers.specs.Pick.{pick}
 use Rattle.fields.specs.Ranges.{lies_within, fits64}
 use Rattle.guest.specs.Addresses.{amount_of}
 use Rattle.guest.specs.Parts.{no_part}
-use Rattle.guest.specs.declared.Given.{Given}
 use Rattle.guest.specs.declared.Part.{Part}
 use Rattle.elf.specs.Header.{e_phoff_of, e_phnum_of, program_header_size}
 use Rattle.elf.specs.ProgramHeaders.{header_at, header_of}
@@ -29,5 +29,5 @@ part_at image shift i =
     pick (lies_within (length image) (e_phoff_of image) (program_header_size * i + program_header_size)) (header_part shift (header_of image i)) no_part
 
 -- part i of a load: from the count of program headers on there is none
-unfoldable pub part_of : List ℕ → Given → ℕ → Part
+unfoldable pub part_of : List ℕ → Option GuestAddress → ℕ → Part
 part_of image offset i = pick (ltb i (e_phnum_of image)) (part_at image (amount_of offset) i) no_part

@@ -1,29 +1,23 @@
 -- The survey of the program headers, one after the other, up to the first that refuses.
-use Rattle.std.specs.Prelude.{ℕ, zero, suc, ◌+◌, max, Bool, List, [], ◌∷◌, leb, eqb, length}
+use Rattle.answers.specs.declared.Refusal.{Refusal}
+use Rattle.guest.specs.Answers.{Answer}
+use Rattle.std.specs.Prelude.{ℕ, zero, suc, ◌+◌, max, Bool, List, [], ◌∷◌, leb, eqb, length, Ok, Err, Option, Result}
 use Rattle.answers.specs.Pick.{pick}
-use Rattle.answers.specs.Tests.{Test, asked_all}
-use Rattle.answers.specs.declared.Gate.{Gate}
-use Rattle.answers.specs.declared.Gate.TheVariants.{Open, Shut}
+use Rattle.answers.specs.Tests.{Test, asked_all, Check, pass}
 use Rattle.answers.specs.declared.Refusal.TheVariants as refusal
 use Rattle.fields.specs.Ranges.{lies_within, fits64}
 use Rattle.guest.specs.Addresses.{amount_of, is_given}
-use Rattle.guest.specs.declared.Given.{Given}
 use Rattle.guest.specs.declared.GuestAddress.{GuestAddress}
 use Rattle.elf.specs.Header.{e_entry_of, e_phnum_of}
 use Rattle.elf.specs.ProgramHeaders.{header_of}
+use Rattle.elf.specs.Notes.{NoteAnswer}
 use Rattle.elf.specs.NoteWalk.{entry_of}
 use Rattle.guest.specs.declared.PvhBootCapability.{PvhBootCapability}
 use Rattle.guest.specs.declared.PvhBootCapability.TheVariants as pvh
 use Rattle.guest.specs.declared.KernelLoaderResult.{KernelLoaderResult}
-use Rattle.guest.specs.declared.Answer.{Answer}
-use Rattle.guest.specs.declared.Answer.TheVariants.{Loaded, Refused}
-use Rattle.elf.specs.declared.NoteAnswer.{NoteAnswer}
-use Rattle.elf.specs.declared.NoteAnswer.TheVariants as answer
 use Rattle.elf.specs.declared.program_headers.ProgramHeader.{ProgramHeader}
 use Rattle.elf.specs.declared.survey.Effect.{Effect}
 use Rattle.elf.specs.declared.survey.Effect.TheVariants as effect
-use Rattle.elf.specs.declared.survey.Step.{Step}
-use Rattle.elf.specs.declared.survey.Step.TheVariants.{Pass, Stop}
 
 -- where n bytes from an address on have room in guest memory
 abbrev pub Rooms : Type 0
@@ -55,34 +49,34 @@ memory_tests shift h =
 abbrev pub end_of : ℕ → ProgramHeader → GuestAddress
 end_of shift h = record { 0 = address_of shift h + h.p_memsz }
 
-abbrev pub step_by : Gate → GuestAddress → Step
-step_by Open end = Pass (effect.EndsAt end)
-step_by (Shut r) end = Stop r
+abbrev pub step_by : Check → GuestAddress → Result Effect Refusal
+step_by (Ok _) end = Ok (effect.EndsAt end)
+step_by (Err r) end = Err r
 
 -- with file bytes, of memory only, or empty and skipped
-unfoldable pub load_step : ℕ → Rooms → ℕ → ProgramHeader → Step
+unfoldable pub load_step : ℕ → Rooms → ℕ → ProgramHeader → Result Effect Refusal
 load_step imageLength hasRoom shift h =
     pick (eqb h.p_filesz 0)
-    (pick (eqb h.p_memsz 0) (Pass effect.Nothing) (step_by (asked_all Open (memory_tests shift h)) (end_of shift h)))
-    (step_by (asked_all Open (segment_tests imageLength hasRoom shift h)) (end_of shift h))
+    (pick (eqb h.p_memsz 0) (Ok effect.Nothing) (step_by (asked_all pass (memory_tests shift h)) (end_of shift h)))
+    (step_by (asked_all pass (segment_tests imageLength hasRoom shift h)) (end_of shift h))
 
 -- ---- any program header
 
 -- what the notes say, as a step
-abbrev pub said_step : NoteAnswer → Step
-said_step (answer.Says said) = Pass (effect.Pvh said)
-said_step (answer.Refused r) = Stop r
+abbrev pub said_step : NoteAnswer → Result Effect Refusal
+said_step (Ok note) = Ok (effect.Pvh note.pvh)
+said_step (Err r) = Err r
 
--- a note header: with an offset, PVH is ignored; without, the walk's answer
-unfoldable pub note_step : List ℕ → Given → ProgramHeader → Step
-note_step image offset h = pick (is_given offset) (Pass (effect.Pvh pvh.PvhEntryIgnored)) (said_step (entry_of image h.p_offset h.p_filesz).answer)
+-- a note header: with an offset, PVH is ignored; without, what the walk returns
+unfoldable pub note_step : List ℕ → Option GuestAddress → ProgramHeader → Result Effect Refusal
+note_step image offset h = pick (is_given offset) (Ok (effect.Pvh pvh.PvhEntryIgnored)) (said_step (entry_of image h.p_offset h.p_filesz))
 
 -- any program header, by its type: 1 is loadable, 4 has notes, others are skipped
-unfoldable pub step_of : List ℕ → Rooms → Given → ProgramHeader → Step
+unfoldable pub step_of : List ℕ → Rooms → Option GuestAddress → ProgramHeader → Result Effect Refusal
 step_of image hasRoom offset h =
     pick (eqb h.p_type 1)
     (load_step (length image) hasRoom (amount_of offset) h)
-    (pick (eqb h.p_type 4) (note_step image offset h) (Pass effect.Nothing))
+    (pick (eqb h.p_type 4) (note_step image offset h) (Ok effect.Nothing))
 
 -- PVH after one more note header: the first note found holds
 unfoldable pub first_found : PvhBootCapability → PvhBootCapability → PvhBootCapability
@@ -109,20 +103,20 @@ abbrev pub blank : GuestAddress → KernelLoaderResult
 blank load = record { kernel_load = load; kernel_end = record { 0 = 0 }; pvh_boot_cap = pvh.PvhEntryIgnored }
 
 -- after the step of a program header: `more` goes on
-abbrev pub after_step : Step → (Effect → Answer) → Answer
-after_step (Pass e) more = more e
-after_step (Stop r) more = Refused r
+abbrev pub after_step : Result Effect Refusal → (Effect → Answer) → Answer
+after_step (Ok e) more = more e
+after_step (Err r) more = Err r
 
 -- n program headers from header i on
-unfoldable pub survey_from : ℕ → List ℕ → Rooms → Given → ℕ → KernelLoaderResult → Answer
-survey_from zero image hasRoom offset i result = Loaded result
+unfoldable pub survey_from : ℕ → List ℕ → Rooms → Option GuestAddress → ℕ → KernelLoaderResult → Answer
+survey_from zero image hasRoom offset i result = Ok result
 survey_from (suc n) image hasRoom offset i result =
     after_step (step_of image hasRoom offset (header_of image i)) (λ e. survey_from n image hasRoom offset (suc i) (advanced result e))
 
 -- the load address: the entry point, plus the offset if given
-abbrev pub load_address : List ℕ → Given → GuestAddress
+abbrev pub load_address : List ℕ → Option GuestAddress → GuestAddress
 load_address image offset = record { 0 = amount_of offset + e_entry_of image }
 
 -- all program headers
-abbrev pub survey_of : List ℕ → Rooms → Given → Answer
+abbrev pub survey_of : List ℕ → Rooms → Option GuestAddress → Answer
 survey_of image hasRoom offset = survey_from (e_phnum_of image) image hasRoom offset 0 (blank (load_address image offset))

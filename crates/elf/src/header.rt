@@ -10,60 +10,57 @@
 
 // The ELF header: the tests before the program headers.
 ghost use Rattle.std.specs.Prelude.{◌≡◌, ◌<◌};
-ghost use Rattle.answers.specs.Tests.{asked_all};
-ghost use Rattle.answers.specs.declared.Gate.TheVariants.{Open};
+ghost use Rattle.answers.specs.Tests.{pass, asked_all};
 ghost use Rattle.elf.specs.Header.{stand_within, tests};
 
-use answers::{Gate, Refusal};
+use answers::Refusal;
 use fields::{numbers, ranges, tags};
-use guest::{Given, ImagePlace, Memory, addresses, lent};
+use guest::{GuestAddress, ImagePlace, Memory, addresses, lent};
 
-// Do n program headers from a place lie within the image? Where there are none, the place is not asked.
+// Do n program headers from a place lie within the image? If there are none, the place may be any.
+#[tactic(auto, unfolding(answers::specs::Pick::pick, crate::specs::Header::stand_within))]
 fn stand_within(len: u64, e_phoff: ImagePlace, n: u64) -> bool
     requires { n < 65536 }
     ensures { result ≡ stand_within len e_phoff.0 n }
 {
-    if n == 0 {
-        return true;
-    }
-    ranges::within(len, e_phoff.0, 56 * n)
+    n == 0 || ranges::within(len, e_phoff.0, 56 * n)
 }
 
-// The tests before the program headers, in their order. Every reader answers on every input, so no test guards another.
-pub(crate) fn validate_header(image: &[u8], memory: Memory, offset: Given, highmem: Given) -> Gate
-    ensures { result ≡ asked_all Open (tests image.now memory offset highmem) }
+// The tests before the program headers, in their order. Each reading is total, so no test depends on one before it.
+pub(crate) fn validate_header(
+    image: &[u8],
+    memory: &Memory,
+    offset: Option<GuestAddress>,
+    highmem: Option<GuestAddress>,
+) -> Result<(), Refusal>
+    ensures { result ≡ asked_all pass (tests image.now memory.now offset highmem) }
 {
     let len = image.len() as u64;
     let e_entry = numbers::read_u64(image, 24);
     let e_phoff = numbers::read_u64(image, 32);
     let e_phentsize = numbers::read_u16(image, 54);
     let e_phnum = numbers::read_u16(image, 56);
-    let gate = lent::ask(len, memory);
-    let gate = answers::require(gate, 64 <= len, Refusal::ReadElfHeader);
-    let gate = answers::require(
-        gate,
+    lent::ask(len, memory)?;
+    answers::require(64 <= len, Refusal::ReadElfHeader)?;
+    answers::require(
         tags::is_tag(image, 0, b"\x7fELF"),
         Refusal::InvalidElfMagicNumber,
-    );
-    let gate = answers::require(
-        gate,
+    )?;
+    answers::require(
         numbers::byte_at(image, 0, 5) == 1,
         Refusal::BigEndianElfOnLittle,
-    );
-    let gate = answers::require(gate, e_phentsize == 56, Refusal::InvalidProgramHeaderSize);
-    let gate = answers::require(gate, 64 <= e_phoff, Refusal::InvalidProgramHeaderOffset);
-    let gate = answers::require(
-        gate,
+    )?;
+    answers::require(e_phentsize == 56, Refusal::InvalidProgramHeaderSize)?;
+    answers::require(64 <= e_phoff, Refusal::InvalidProgramHeaderOffset)?;
+    answers::require(
         addresses::amount(highmem) <= e_entry,
         Refusal::InvalidEntryAddress,
-    );
-    let gate = answers::require(
-        gate,
+    )?;
+    answers::require(
         ranges::sum_fits(addresses::amount(offset), e_entry),
         Refusal::Overflow,
-    );
+    )?;
     answers::require(
-        gate,
         stand_within(len, ImagePlace(e_phoff), e_phnum),
         Refusal::ReadProgramHeader,
     )

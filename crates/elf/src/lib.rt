@@ -7,7 +7,7 @@
 // found in the NOTICE file.
 //
 // SPDX-License-Identifier: Apache-2.0 AND BSD-3-Clause
-#![tactic(auto)]
+#![tactic(auto, unfolding(answers::specs::Pick::pick, answers::specs::Tests::asked))]
 
 // ELF kernels: the plan of a load, made of the image, the memory and the options only, and its parts: the segments of
 // all program headers, in file order. The crate `loads` copies them if every header has passed.
@@ -24,29 +24,18 @@ pub mod parts;
 mod program_headers;
 mod survey;
 
-// What the notes of a program header say.
-#[derive(Clone, Copy)]
-pub enum NoteAnswer {
-    Says(PvhBootCapability),
-    Refused(Refusal),
-}
-
-// What a note walk answers, and how many note headers it read; a refusal has no count.
+// What a note walk finds: the PVH entry, if there is one, and how many note headers it read.
 #[derive(Clone, Copy)]
 pub struct ElfNote {
-    pub answer: NoteAnswer,
+    pub pvh: PvhBootCapability,
     pub headers: u64,
 }
 
 // The PVH entry that the notes of p_filesz bytes at p_offset give.
-pub fn parse_elf_note(image: &[u8], p_offset: ImagePlace, p_filesz: u64) -> ElfNote
+#[tactic(auto, unfolding(answers::specs::Pick::pick, answers::specs::Tests::asked, crate::specs::NoteWalk::public_note))]
+pub fn parse_elf_note(image: &[u8], p_offset: ImagePlace, p_filesz: u64) -> Result<ElfNote, Refusal>
     ensures { result ≡ public_note image.now p_offset p_filesz }
 {
-    if !sizes::is_allowed(image.len() as u64) {
-        return ElfNote {
-            answer: NoteAnswer::Refused(Refusal::SliceTooLong),
-            headers: 0,
-        };
-    }
-    notes::entry(image, p_offset, p_filesz)
+    answers::require(sizes::is_allowed(image.len() as u64), Refusal::SliceTooLong)?;
+    notes::walk_notes(image, p_offset, p_filesz)
 }

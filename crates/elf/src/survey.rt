@@ -8,25 +8,27 @@
 //
 // SPDX-License-Identifier: Apache-2.0 AND BSD-3-Clause
 
+#![tactic(auto, unfolding(answers::specs::Pick::pick, answers::specs::Tests::asked, guest::specs::Loading::behind_tests, guest::specs::Addresses::is_given, crate::specs::Survey::load_step, crate::specs::Survey::note_step, crate::specs::Survey::step_of, crate::specs::Survey::first_found, crate::specs::Survey::advanced), using(fields::proofs::RangesLaws::sum_within, fields::proofs::RangesLaws::sum_beyond))]
+
 // The survey: each program header in turn, up to the first that refuses. Nothing is written before all have passed.
+// `shift` and `h` stay two parameters: no fact joins them, and a struct would be filled before each call.
 ghost use Rattle.std.specs.Prelude.{◌≡◌, ◌+◌, max};
-ghost use Rattle.answers.specs.Tests.{asked, asked_all};
-ghost use Rattle.answers.specs.declared.Gate.TheVariants.{Open};
+ghost use Rattle.answers.specs.Tests.{pass, asked, asked_all};
 ghost use Rattle.answers.specs.declared.Refusal.TheVariants.{MemoryOverflow};
 ghost use Rattle.fields.specs.Ranges.{fits64};
 ghost use Rattle.guest.specs.Room.{room};
 ghost use Rattle.elf.specs.Header.{e_phoff_of};
 ghost use Rattle.elf.specs.ProgramHeaders.{HeadersStand};
-ghost use Rattle.elf.specs.Survey.{segment_tests, memory_tests, end_of, step_by, load_step, note_step, step_of, first_found, advanced, blank, survey_from};
+ghost use Rattle.elf.specs.Survey.{segment_tests, memory_tests, end_of, step_by, load_step, note_step};
+ghost use Rattle.elf.specs.Survey.{step_of, first_found, advanced, blank, survey_from};
 ghost use Rattle.elf.specs.Pouring.{plan_of};
 
-use crate::program_headers::ProgramHeader;
-use crate::{NoteAnswer, header, notes, program_headers};
-use answers::{Gate, Refusal};
+use crate::program_headers::{PT_LOAD, PT_NOTE, ProgramHeader};
+use crate::{header, notes, program_headers};
+use answers::Refusal;
 use fields::{numbers, ranges};
 use guest::{
-    Answer, Given, GuestAddress, ImagePlace, KernelLoaderResult, Memory, PvhBootCapability,
-    addresses, room,
+    GuestAddress, ImagePlace, KernelLoaderResult, Memory, PvhBootCapability, addresses, room,
 };
 
 // What a program header that does not refuse changes of the result.
@@ -37,64 +39,66 @@ pub enum Effect {
     Pvh(PvhBootCapability),
 }
 
-// What one program header says: go on, or refuse.
-#[derive(Clone, Copy)]
-pub enum Step {
-    Pass(Effect),
-    Stop(Refusal),
-}
-
 // The end of a segment's memory, of this size from an address on.
-fn end_step(at: u64, size: u64) -> Step
-    ensures { result ≡ step_by (asked Open (fits64 at size) MemoryOverflow) (record { 0 = at + size }) }
+fn end_step(at: u64, size: u64) -> Result<Effect, Refusal>
+    ensures { result ≡ step_by (asked pass (fits64 at size) MemoryOverflow) (record { 0 = at + size }) }
 {
-    if !ranges::sum_fits(at, size) {
-        return Step::Stop(Refusal::MemoryOverflow);
-    }
-    Step::Pass(Effect::EndsAt(GuestAddress(at + size)))
+    let end = at.checked_add(size).ok_or(Refusal::MemoryOverflow)?;
+    Ok(Effect::EndsAt(GuestAddress(end)))
 }
 
 // A loadable segment with file bytes.
-fn segment_step(image_len: u64, memory: Memory, shift: GuestAddress, h: ProgramHeader) -> Step
-    ensures { result ≡ step_by (asked_all Open (segment_tests image_len (room memory) shift.0 h)) (end_of shift.0 h) }
+fn segment_step(
+    image_len: u64,
+    memory: &Memory,
+    shift: GuestAddress,
+    h: ProgramHeader,
+) -> Result<Effect, Refusal>
+    ensures { result ≡ step_by (asked_all pass (segment_tests image_len (room memory.now) shift.0 h))
+        (end_of shift.0 h) }
 {
-    let shift = shift.0;
-    let p_paddr = h.p_paddr.0;
-    if h.p_memsz < h.p_filesz {
-        return Step::Stop(Refusal::InvalidProgramHeaderFileSize);
-    }
-    if !ranges::sum_fits(shift, p_paddr) {
-        return Step::Stop(Refusal::InvalidProgramHeaderAddress);
-    }
-    let at = shift + p_paddr;
-    if !ranges::within(image_len, h.p_offset.0, h.p_filesz) {
-        return Step::Stop(Refusal::ReadKernelImage);
-    }
-    if !room::has_room(memory, GuestAddress(at), h.p_filesz) {
-        return Step::Stop(Refusal::ReadKernelImage);
-    }
+    answers::require(
+        h.p_filesz <= h.p_memsz,
+        Refusal::InvalidProgramHeaderFileSize,
+    )?;
+    let at = shift
+        .0
+        .checked_add(h.p_paddr.0)
+        .ok_or(Refusal::InvalidProgramHeaderAddress)?;
+    answers::require(
+        ranges::within(image_len, h.p_offset.0, h.p_filesz),
+        Refusal::ReadKernelImage,
+    )?;
+    answers::require(
+        room::has_room(memory, GuestAddress(at), h.p_filesz),
+        Refusal::ReadKernelImage,
+    )?;
     end_step(at, h.p_memsz)
 }
 
 // A loadable segment of memory only: nothing is read or written, and no room is needed.
-fn memory_step(shift: GuestAddress, h: ProgramHeader) -> Step
-    ensures { result ≡ step_by (asked_all Open (memory_tests shift.0 h)) (end_of shift.0 h) }
+fn memory_step(shift: GuestAddress, h: ProgramHeader) -> Result<Effect, Refusal>
+    ensures { result ≡ step_by (asked_all pass (memory_tests shift.0 h)) (end_of shift.0 h) }
 {
-    let shift = shift.0;
-    let p_paddr = h.p_paddr.0;
-    if !ranges::sum_fits(shift, p_paddr) {
-        return Step::Stop(Refusal::InvalidProgramHeaderAddress);
-    }
-    end_step(shift + p_paddr, h.p_memsz)
+    let at = shift
+        .0
+        .checked_add(h.p_paddr.0)
+        .ok_or(Refusal::InvalidProgramHeaderAddress)?;
+    end_step(at, h.p_memsz)
 }
 
 // A loadable segment: with file bytes, of memory only, or empty.
-fn load_step(image_len: u64, memory: Memory, shift: GuestAddress, h: ProgramHeader) -> Step
-    ensures { result ≡ load_step image_len (room memory) shift.0 h }
+fn load_step(
+    image_len: u64,
+    memory: &Memory,
+    shift: GuestAddress,
+    h: ProgramHeader,
+) -> Result<Effect, Refusal>
+    ensures { result ≡ load_step image_len (room memory.now) shift.0 h }
 {
     if h.p_filesz == 0 {
         if h.p_memsz == 0 {
-            return Step::Pass(Effect::Nothing);
+            return Ok(Effect::Nothing);
         }
         return memory_step(shift, h);
     }
@@ -102,40 +106,37 @@ fn load_step(image_len: u64, memory: Memory, shift: GuestAddress, h: ProgramHead
 }
 
 // A note header. With an offset it is not walked.
-fn note_step(image: &[u8], offset: Given, h: ProgramHeader) -> Step
+fn note_step(
+    image: &[u8],
+    offset: Option<GuestAddress>,
+    h: ProgramHeader,
+) -> Result<Effect, Refusal>
     ensures { result ≡ note_step image.now offset h }
 {
-    if addresses::is_given(offset) {
-        return Step::Pass(Effect::Pvh(PvhBootCapability::PvhEntryIgnored));
+    if offset.is_some() {
+        return Ok(Effect::Pvh(PvhBootCapability::PvhEntryIgnored));
     }
-    let p_offset = h.p_offset;
-    let note = notes::entry(image, p_offset, h.p_filesz);
-    let answer = note.answer;
-    match answer {
-        NoteAnswer::Says(pvh) => Step::Pass(Effect::Pvh(pvh)),
-        NoteAnswer::Refused(r) => Step::Stop(r),
-    }
+    let note = notes::walk_notes(image, h.p_offset, h.p_filesz)?;
+    Ok(Effect::Pvh(note.pvh))
 }
 
 // Any program header.
-fn examine(image: &[u8], memory: Memory, offset: Given, h: ProgramHeader) -> Step
-    ensures { result ≡ step_of image.now (room memory) offset h }
+fn examine(
+    image: &[u8],
+    memory: &Memory,
+    offset: Option<GuestAddress>,
+    h: ProgramHeader,
+) -> Result<Effect, Refusal>
+    ensures { result ≡ step_of image.now (room memory.now) offset h }
 {
-    let p_type = h.p_type;
-    if p_type == 1 {
+    if h.p_type == PT_LOAD {
         let shift = GuestAddress(addresses::amount(offset));
         return load_step(image.len() as u64, memory, shift, h);
     }
-    if p_type == 4 {
+    if h.p_type == PT_NOTE {
         return note_step(image, offset, h);
     }
-    Step::Pass(Effect::Nothing)
-}
-
-fn greater(a: u64, b: u64) -> u64
-    ensures { result ≡ max a b }
-{
-    if a < b { b } else { a }
+    Ok(Effect::Nothing)
 }
 
 // PVH after one more note header: the first note found holds.
@@ -143,9 +144,8 @@ fn first_found(held: PvhBootCapability, said: PvhBootCapability) -> PvhBootCapab
     ensures { result ≡ first_found held said }
 {
     match held {
-        PvhBootCapability::PvhEntryPresent(note) => PvhBootCapability::PvhEntryPresent(note),
-        PvhBootCapability::PvhEntryNotPresent => said,
-        PvhBootCapability::PvhEntryIgnored => said,
+        PvhBootCapability::PvhEntryPresent(_) => held,
+        PvhBootCapability::PvhEntryNotPresent | PvhBootCapability::PvhEntryIgnored => said,
     }
 }
 
@@ -153,70 +153,56 @@ fn first_found(held: PvhBootCapability, said: PvhBootCapability) -> PvhBootCapab
 fn advance(res: KernelLoaderResult, effect: Effect) -> KernelLoaderResult
     ensures { result ≡ advanced res effect }
 {
-    let load = res.kernel_load;
-    let end = res.kernel_end;
-    let pvh = res.pvh_boot_cap;
     match effect {
         Effect::Nothing => res,
-        Effect::EndsAt(a) => KernelLoaderResult {
-            kernel_load: load,
-            kernel_end: GuestAddress(greater(end.0, a.0)),
-            pvh_boot_cap: pvh,
+        Effect::EndsAt(end) => KernelLoaderResult {
+            kernel_end: GuestAddress(res.kernel_end.0.max(end.0)),
+            ..res
         },
         Effect::Pvh(said) => KernelLoaderResult {
-            kernel_load: load,
-            kernel_end: end,
-            pvh_boot_cap: first_found(pvh, said),
+            pvh_boot_cap: first_found(res.pvh_boot_cap, said),
+            ..res
         },
     }
 }
 
-// The n program headers from e_phoff on, which stand in the image.
+// The n program headers from e_phoff on, which lie in the image.
 fn survey(
     image: &[u8],
-    memory: Memory,
-    offset: Given,
+    memory: &Memory,
+    offset: Option<GuestAddress>,
     load: GuestAddress,
     e_phoff: ImagePlace,
     n: u64,
-) -> Answer
+) -> Result<KernelLoaderResult, Refusal>
     requires { (e_phoff.0 ≡ e_phoff_of image.now) × HeadersStand image.now n }
-    ensures { result ≡ survey_from n image.now (room memory) offset 0 (blank load) }
+    ensures { result ≡ survey_from n image.now (room memory.now) offset 0 (blank load) }
 {
     let mut result = KernelLoaderResult {
         kernel_load: load,
         kernel_end: GuestAddress(0),
         pvh_boot_cap: PvhBootCapability::PvhEntryIgnored,
     };
-    let mut i: u64 = 0;
-    while i < n {
+    for i in 0..n {
         let h = program_headers::read_header(image, e_phoff, i);
-        let step = examine(image, memory, offset, h);
-        match step {
-            Step::Pass(effect) => {
-                result = advance(result, effect);
-            }
-            Step::Stop(r) => {
-                return Answer::Refused(r);
-            }
-        }
-        i += 1;
+        let effect = examine(image, memory, offset, h)?;
+        result = advance(result, effect);
     }
-    Answer::Loaded(result)
+    Ok(result)
 }
 
-// What a load answers.
-pub(crate) fn answer_load(image: &[u8], memory: Memory, offset: Given, highmem: Given) -> Answer
-    ensures { result ≡ (plan_of image.now memory offset highmem).answer }
+// What a load returns.
+pub(crate) fn answer_load(
+    image: &[u8],
+    memory: &Memory,
+    offset: Option<GuestAddress>,
+    highmem: Option<GuestAddress>,
+) -> Result<KernelLoaderResult, Refusal>
+    ensures { result ≡ (plan_of image.now memory.now offset highmem).answer }
 {
-    let gate = header::validate_header(image, memory, offset, highmem);
-    match gate {
-        Gate::Shut(r) => Answer::Refused(r),
-        Gate::Open => {
-            let load = addresses::amount(offset) + numbers::read_u64(image, 24);
-            let e_phoff = ImagePlace(numbers::read_u64(image, 32));
-            let e_phnum = numbers::read_u16(image, 56);
-            survey(image, memory, offset, GuestAddress(load), e_phoff, e_phnum)
-        }
-    }
+    header::validate_header(image, memory, offset, highmem)?;
+    let load = addresses::amount(offset) + numbers::read_u64(image, 24);
+    let e_phoff = ImagePlace(numbers::read_u64(image, 32));
+    let e_phnum = numbers::read_u16(image, 56);
+    survey(image, memory, offset, GuestAddress(load), e_phoff, e_phnum)
 }

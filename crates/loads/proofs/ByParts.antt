@@ -1,16 +1,15 @@
 -- "Which image bytes go where", of a load of any format: copying the parts that `formats::part` answers, one after the other, leaves guest memory as an
 -- accepted load does; and so do the parts that were tested, each of which lies in the image and in one range of guest memory.
+use Rattle.std.specs.Prelude.{Ok, is_ok}
 use Prim.Native.Nat.{ℕ, zero, suc, ◌+◌, ◌≤◌, ◌<◌}
 use mathlib.Core.Path.{◌≡◌, sym, ◌∙◌, refl, ap}
 use mathlib.Core.List.{List, []}
 use native.Mathlib.Omega.{arith}
 use Rattle.answers.specs.Pick.{pick}
-use Rattle.guest.specs.Answers.{is_loaded}
+use Rattle.guest.specs.Answers.{Answer}
 use Rattle.guest.specs.Parts.{part_stream, parts_from}
 use Rattle.guest.specs.Room.{memory_of}
 use Rattle.guest.specs.Stream.{Poke, bytes_at, pour}
-use Rattle.guest.specs.declared.Answer.{Answer}
-use Rattle.guest.specs.declared.Answer.TheVariants.{Loaded}
 use Rattle.guest.specs.declared.KernelLoaderResult.{KernelLoaderResult}
 use Rattle.guest.specs.declared.Map.{Map}
 use Rattle.guest.specs.declared.Memory.{Memory}
@@ -52,14 +51,14 @@ copied_same k image part part' i guest same = copied_alike k image part part' i 
 
 -- ---- of an accepted load
 
-loaded_stream : (image : List ℕ) (m : Memory) (o : Options) {k : KernelLoaderResult} → answer_of image m o ≡ Loaded k
+loaded_stream : (image : List ℕ) (m : Memory) (o : Options) {k : KernelLoaderResult} → answer_of image m o ≡ Ok k
     → (plan_of image m o).stream ≡ parts_from (count_of image o) image (part_of image o) 0
-unfolding is_loaded pick
-loaded_stream image m o is = ap (λ (a : Answer). pick (is_loaded a) (parts_from (count_of image o) image (part_of image o) 0) []) is
+unfolding pick
+loaded_stream image m o is = ap (λ (a : Answer). pick (is_ok a) (parts_from (count_of image o) image (part_of image o) 0) []) is
 
 module _ (image : List ℕ) (o : Options) (map : Map) (before after : List ℕ) {r : Answer} {k : KernelLoaderResult} (says : LoadSays image o map before r after)
-    (is : r ≡ Loaded k) where
-  answered : answer_of image (memory_of before map) o ≡ Loaded k
+    (is : r ≡ Ok k) where
+  answered : answer_of image (memory_of before map) o ≡ Ok k
   answered = sym says.answer ∙ is
 
   pub by_parts : after ≡ copied_from (count_of image o) image (part_of image o) 0 before

@@ -1,14 +1,14 @@
 -- "Two images of one length that hold the same bytes where a plan looks have the same plan": the same answer, the same number of parts and the same parts,
 -- whatever the rest of either image holds. So a caller may plan with those bytes only, and copy the parts from the whole image: guest memory is then as the
 -- load of the whole image leaves it.
+use Rattle.std.specs.Prelude.{Ok, Option}
+use Rattle.guest.specs.declared.GuestAddress.{GuestAddress}
+use Rattle.guest.specs.Answers.{Answer}
 use Prim.Native.Nat.{ℕ}
 use mathlib.Core.Path.{◌≡◌, refl, ◌∙◌, ap}
 use mathlib.Core.List.{List}
 use Rattle.guest.specs.Addresses.{amount_of}
 use Rattle.guest.specs.Room.{memory_of}
-use Rattle.guest.specs.declared.Answer.{Answer}
-use Rattle.guest.specs.declared.Answer.TheVariants.{Loaded}
-use Rattle.guest.specs.declared.Given.{Given}
 use Rattle.guest.specs.declared.KernelLoaderResult.{KernelLoaderResult}
 use Rattle.guest.specs.declared.Map.{Map}
 use Rattle.guest.specs.declared.Memory.{Memory}
@@ -17,6 +17,7 @@ use Rattle.elf.proofs.Footprint as elf
 use Rattle.bzimage.proofs.Footprint as bzimage
 use Rattle.arm64.proofs.Footprint as arm64
 use Rattle.loads.specs.ByParts.{copied_from}
+use Rattle.guest.specs.Parts.{no_part}
 use Rattle.loads.specs.Formats.{answer_by, count_by, only_at, part_by, answer_of, count_of, part_of, LoadSays}
 use Rattle.loads.specs.Growing.{SameFootprint}
 use Rattle.loads.specs.declared.Format.{Format}
@@ -24,7 +25,7 @@ use Rattle.loads.specs.declared.Format.TheVariants.{Elf, BzImage, Arm64}
 use Rattle.loads.specs.declared.Options.{Options}
 use Rattle.loads.proofs.ByParts.{by_parts, copied_same}
 
-module _ (s t : List ℕ) (m : Memory) (offset highmem : Given) where
+module _ (s t : List ℕ) (m : Memory) (offset highmem : Option GuestAddress) where
   answer_by_lem : (f : Format) → SameFootprint f s t offset → answer_by f s m offset highmem ≡ answer_by f t m offset highmem
   unfolding SameFootprint answer_by
   answer_by_lem Elf same = elf.plan_same s t offset same m highmem
@@ -40,8 +41,8 @@ module _ (s t : List ℕ) (m : Memory) (offset highmem : Given) where
   part_by_lem : (f : Format) → SameFootprint f s t offset → (i : ℕ) → part_by f s offset i ≡ part_by f t offset i
   unfolding SameFootprint part_by
   part_by_lem Elf same i = elf.parts_same s t offset same i
-  part_by_lem BzImage same i = ap (λ (p : Part). only_at p i) (bzimage.part_same s t same m offset highmem)
-  part_by_lem Arm64 same i = ap (λ (p : Part). only_at p i) (arm64.part_same s t same m (amount_of offset))
+  part_by_lem BzImage same i = ap (λ (p : Part). only_at p no_part i) (bzimage.part_same s t same m offset highmem)
+  part_by_lem Arm64 same i = ap (λ (p : Part). only_at p no_part i) (arm64.part_same s t same m (amount_of offset))
 
 module _ (s t : List ℕ) (o : Options) (same : SameFootprint o.format s t o.kernel_offset) where
   pub answer_same : (m : Memory) → answer_of s m o ≡ answer_of t m o
@@ -54,7 +55,7 @@ module _ (s t : List ℕ) (o : Options) (same : SameFootprint o.format s t o.ker
   parts_same m i = part_by_lem s t m o.kernel_offset o.highmem_start o.format same i
 
   -- a load by the parts of the other image
-  pub planned_elsewhere : (map : Map) (before after : List ℕ) {r : Answer} {k : KernelLoaderResult} → LoadSays s o map before r after → r ≡ Loaded k
+  pub planned_elsewhere : (map : Map) (before after : List ℕ) {r : Answer} {k : KernelLoaderResult} → LoadSays s o map before r after → r ≡ Ok k
       → (r ≡ answer_of t (memory_of before map) o) × (after ≡ copied_from (count_of t o) s (part_of t o) 0 before)
   planned_elsewhere map before after says is =
       let m = memory_of before map in (

@@ -1,23 +1,22 @@
 -- Laws of the plan and its parts, of any format: each format has shown that its parts are what it writes, and that they fit.
+use Rattle.std.specs.Prelude.{Ok, Err, Option, is_ok}
+use Rattle.guest.specs.declared.GuestAddress.{GuestAddress}
 use Prim.Native.Nat.{ℕ, zero, suc, ◌+◌, ◌-◌, ◌*◌, ◌≤◌, ◌<◌}
 use mathlib.Core.Path.{◌≡◌, refl, sym, ◌∙◌, ap, subst, subst⁻¹}
-use mathlib.Core.Bool.{Bool, true}
+use mathlib.Core.Bool.{Bool, true, false}
 use mathlib.Core.List.{List, []}
 use native.Mathlib.Omega.{arith}
-use borrow.Author.Tests.{eq-eqb, lt-ltb}
+use borrow.Author.Tests.{eq-eqb, lt-ltb, eqb-false}
 use lib.Dec.{eqb}
 use lib.ListN.{length}
 use Rattle.answers.specs.Pick.{pick}
 use Rattle.answers.specs.declared.Refusal.{Refusal}
 use Rattle.answers.proofs.PickLaws.{pick_with}
 use Rattle.guest.specs.Addresses.{amount_of}
-use Rattle.guest.specs.Answers.{is_loaded}
+use Rattle.guest.specs.Answers.{Answer}
 use Rattle.guest.specs.Loading.{Plan, Loads}
 use Rattle.guest.specs.Parts.{PartLies, Fits, PartCopied, kept_part, part_stream, parts_from, portion_of}
 use Rattle.guest.specs.Stream.{Poke, Inside, none, pour, stream_at, bytes_at}
-use Rattle.guest.specs.declared.Answer.{Answer}
-use Rattle.guest.specs.declared.Answer.TheVariants.{Loaded, Refused}
-use Rattle.guest.specs.declared.Given.{Given}
 use Rattle.guest.specs.declared.KernelLoaderResult.{KernelLoaderResult}
 use Rattle.guest.specs.declared.Memory.{Memory}
 use Rattle.guest.specs.declared.Part.{Part}
@@ -38,7 +37,7 @@ use Rattle.bzimage.proofs.PlanLaws as bzimage_laws
 use Rattle.arm64.specs.Plan as arm64
 use Rattle.arm64.proofs.PlanLaws as arm64_laws
 use Rattle.loads.specs.Formats.{answer_by, count_by, only_at, part_by, answer_of, count_of, part_of, plan_of}
-use Rattle.loads.specs.Layout.{layout_by, layout_of, part_in, TableStands, headers, bzimage_has_none, arm64_has_none}
+use Rattle.loads.specs.Layout.{layout_by, layout_of, part_in, HeaderLies, TableStands, headers, bzimage_has_none, arm64_has_none}
 use Rattle.loads.specs.Steps.{tested_part}
 use Rattle.loads.specs.declared.Format.{Format}
 use Rattle.loads.specs.declared.Format.TheVariants.{Elf, BzImage, Arm64}
@@ -48,21 +47,21 @@ use Rattle.loads.specs.declared.formats.Layout.{Layout}
 -- ---- the plan of a load is its format's
 
 -- a plan that writes these parts if it loads, and else nothing
-by_answer : (plan : Plan Answer) (parts : List Poke) → ((k : KernelLoaderResult) → plan.answer ≡ Loaded k → parts ≡ plan.stream)
-    → ((r : Refusal) → plan.answer ≡ Refused r → plan.stream ≡ []) → record { answer = plan.answer; stream = pick (is_loaded plan.answer) parts [] } ≡ plan
-unfolding is_loaded pick
+by_answer : (plan : Plan Answer) (parts : List Poke) → ((k : KernelLoaderResult) → plan.answer ≡ Ok k → parts ≡ plan.stream)
+    → ((r : Refusal) → plan.answer ≡ Err r → plan.stream ≡ []) → record { answer = plan.answer; stream = pick (is_ok plan.answer) parts [] } ≡ plan
+unfolding pick
 by_answer plan parts loads refuses = ap (λ (ps : List Poke). record { answer = plan.answer; stream = ps }) (by plan.answer refl)
   where
-    by : (a : Answer) → plan.answer ≡ a → pick (is_loaded plan.answer) parts [] ≡ plan.stream
-    by (Loaded k) e = ap (λ (a : Answer). pick (is_loaded a) parts []) e ∙ loads k e
-    by (Refused r) e = ap (λ (a : Answer). pick (is_loaded a) parts []) e ∙ sym (refuses r e)
+    by : (a : Answer) → plan.answer ≡ a → pick (is_ok plan.answer) parts [] ≡ plan.stream
+    by (Ok k) e = ap (λ (a : Answer). pick (is_ok a) parts []) e ∙ loads k e
+    by (Err r) e = ap (λ (a : Answer). pick (is_ok a) parts []) e ∙ sym (refuses r e)
 
-module _ (image : List ℕ) (m : Memory) (offset highmem : Given) where
+module _ (image : List ℕ) (m : Memory) (offset highmem : Option GuestAddress) where
   abbrev by_format : Format → Plan Answer
   by_format f =
       record {
         answer = answer_by f image m offset highmem;
-        stream = pick (is_loaded (answer_by f image m offset highmem)) (parts_from (count_by f image) image (part_by f image offset) 0) [];
+        stream = pick (is_ok (answer_by f image m offset highmem)) (parts_from (count_by f image) image (part_by f image offset) 0) [];
       }
 
   elf_by : by_format Elf ≡ elf.plan_of image m offset highmem
@@ -83,7 +82,7 @@ module _ (image : List ℕ) (m : Memory) (offset highmem : Given) where
 
   -- ---- the parts of an accepted load fit
 
-  fit_by : (f : Format) {k : KernelLoaderResult} → answer_by f image m offset highmem ≡ Loaded k → (i : ℕ) → i < count_by f image
+  fit_by : (f : Format) {k : KernelLoaderResult} → answer_by f image m offset highmem ≡ Ok k → (i : ℕ) → i < count_by f image
       → Fits (length image) m (part_by f image offset i)
   unfolding answer_by count_by part_by only_at
   fit_by Elf is i lt = elf_laws.parts_fit image m offset highmem (subst⁻¹ Accepted is is_accepted) i lt
@@ -102,21 +101,22 @@ module _ (image : List ℕ) (m : Memory) (o : Options) where
   pub arm64_plan : o.format ≡ Arm64 → plan_of image m o ≡ arm64.plan_of image m (amount_of o.kernel_offset)
   arm64_plan e = ap (by_format image m o.kernel_offset o.highmem_start) e ∙ arm64_by image m o.kernel_offset o.highmem_start
 
-  pub parts_fit : {k : KernelLoaderResult} → answer_of image m o ≡ Loaded k → (i : ℕ) → i < count_of image o → Fits (length image) m (part_of image o i)
+  pub parts_fit : {k : KernelLoaderResult} → answer_of image m o ≡ Ok k → (i : ℕ) → i < count_of image o → Fits (length image) m (part_of image o i)
   parts_fit is = fit_by image m o.kernel_offset o.highmem_start o.format is
 
   -- of an accepted load the program headers lie in the image
-  stands_by : (f : Format) {k : KernelLoaderResult} → answer_by f image m o.kernel_offset o.highmem_start ≡ Loaded k → TableStands image f
+  stands_by : (f : Format) {k : KernelLoaderResult} → answer_by f image m o.kernel_offset o.highmem_start ≡ Ok k → TableStands image f
   unfolding answer_by
   stands_by Elf is = headers (accepted_stand image m o.kernel_offset o.highmem_start (subst⁻¹ Accepted is is_accepted))
   stands_by BzImage is = bzimage_has_none
   stands_by Arm64 is = arm64_has_none
 
-  pub table_stands : {a : Answer} {k : KernelLoaderResult} → a ≡ answer_of image m o → a ≡ Loaded k → TableStands image o.format
-  table_stands ea ek = stands_by o.format (sym ea ∙ ek)
+  pub table_stands : {a : Answer} → a ≡ answer_of image m o → is_ok a ≡ true → TableStands image o.format
+  table_stands {a = Ok k} ea is = stands_by o.format (sym ea)
+  table_stands {a = Err r} ea is = absurd (eqb-false 0 0 (sym is) refl)
 
   -- so testing them again changes nothing of what they write
-  pub parts_tested : {k : KernelLoaderResult} → answer_of image m o ≡ Loaded k
+  pub parts_tested : {k : KernelLoaderResult} → answer_of image m o ≡ Ok k
       → parts_from (count_of image o) image (tested_part image m o) 0 ≡ parts_from (count_of image o) image (part_of image o) 0
   parts_tested is = parts_kept (count_of image o) image m (part_of image o) 0 (λ j le lt. parts_fit is j (omega arith))
 
@@ -125,32 +125,32 @@ module _ (image : List ℕ) (m : Memory) (o : Options) where
   parts_stand i = kept_stands (length image) m (part_of image o i)
 
   -- what is written lies in guest memory
-  inside_by : (a : Answer) → answer_of image m o ≡ a → Inside m (pick (is_loaded a) (parts_from (count_of image o) image (part_of image o) 0) [])
-  unfolding is_loaded pick
-  inside_by (Loaded k) e = subst (Inside m) (parts_tested e) (parts_inside image m (tested_part image m o) parts_stand (count_of image o) 0)
-  inside_by (Refused r) e = none
+  inside_by : (a : Answer) → answer_of image m o ≡ a → Inside m (pick (is_ok a) (parts_from (count_of image o) image (part_of image o) 0) [])
+  unfolding pick
+  inside_by (Ok k) e = subst (Inside m) (parts_tested e) (parts_inside image m (tested_part image m o) parts_stand (count_of image o) 0)
+  inside_by (Err r) e = none
 
   pub plan_inside : Inside m (plan_of image m o).stream
   plan_inside = inside_by (answer_of image m o) refl
 
   -- ---- the whole load: a refusal writes nothing, and else all parts are written
 
-  written_by : {a : Answer} {x : Bool} {before after : List ℕ} → a ≡ answer_of image m o → is_loaded a ≡ x
+  written_by : {a : Answer} {x : Bool} {before after : List ℕ} → a ≡ answer_of image m o → is_ok a ≡ x
       → after ≡ pour (pick x (parts_from (count_of image o) image (part_of image o) 0) []) before → Loads (plan_of image m o) before a after
   written_by {before = before} ea ex written =
       record {
         answer = ea;
-        memory = written ∙ ap (λ (y : Bool). pour (pick y (parts_from (count_of image o) image (part_of image o) 0) []) before) (sym ex ∙ ap is_loaded ea);
+        memory = written ∙ ap (λ (y : Bool). pour (pick y (parts_from (count_of image o) image (part_of image o) 0) []) before) (sym ex ∙ ap is_ok ea);
       }
 
-  pub load_refused : {a : Answer} {r : Refusal} (before : List ℕ) → a ≡ answer_of image m o → a ≡ Refused r → Loads (plan_of image m o) before a before
-  unfolding is_loaded pick pour
-  load_refused before ea er = written_by ea (ap is_loaded er) refl
+  pub load_refused : {a : Answer} (before : List ℕ) → a ≡ answer_of image m o → is_ok a ≡ false → Loads (plan_of image m o) before a before
+  unfolding pick pour
+  load_refused before ea shut = written_by ea shut refl
 
-  pub load_accepted : {a : Answer} {k : KernelLoaderResult} {before after : List ℕ} → a ≡ answer_of image m o → a ≡ Loaded k
+  pub load_accepted : {a : Answer} {before after : List ℕ} → a ≡ answer_of image m o → is_ok a ≡ true
       → after ≡ pour (parts_from (count_of image o) image (part_of image o) 0) before → Loads (plan_of image m o) before a after
-  unfolding is_loaded pick
-  load_accepted ea ek written = written_by ea (ap is_loaded ek) written
+  unfolding pick
+  load_accepted ea is written = written_by ea is written
 
   -- ---- portions
 
@@ -173,7 +173,7 @@ short_sum passed k size top short small = omega arith
 
 -- ---- all parts, one after the other
 
-module _ (image : List ℕ) (offset : Given) (i : ℕ) where
+module _ (image : List ℕ) (offset : Option GuestAddress) (i : ℕ) where
   -- the part of a header that lies in the image
   table_part : i < e_phnum_of image → header_place image i + program_header_size ≤ length image
       → header_part (amount_of offset) (header_of image i) ≡ elf_parts.part_of image offset i
@@ -187,12 +187,11 @@ module _ (image : List ℕ) (offset : Given) (i : ℕ) where
   layout_by_lem BzImage bzimage_has_none lt = sym (rw (eq-eqb i 0 (omega arith)))
   layout_by_lem Arm64 arm64_has_none lt = sym (rw (eq-eqb i 0 (omega arith)))
 
-  fits_by : (f : Format) → TableStands image f → i < count_by f image → (layout_by f image offset).by_table ≡ true
-      → (layout_by f image offset).table.0 + 56 * i + 56 ≤ length image
+  fits_by : (f : Format) → TableStands image f → i < count_by f image → HeaderLies image (layout_by f image offset) i
   unfolding layout_by count_by
-  fits_by Elf (headers h) lt is = h.stands i lt
-  fits_by BzImage bzimage_has_none lt is = let w : ◌≡◌ {A = ℕ} 0 1 = cc in absurd (omega arith)
-  fits_by Arm64 arm64_has_none lt is = let w : ◌≡◌ {A = ℕ} 0 1 = cc in absurd (omega arith)
+  fits_by Elf (headers h) lt = h.stands i lt
+  fits_by BzImage bzimage_has_none lt = tt
+  fits_by Arm64 arm64_has_none lt = tt
 
 -- parts that agree, one by one
 same_parts : (image : List ℕ) (p q : ℕ → Part) (k i : ℕ) → ((j : ℕ) → j < i + k → p j ≡ q j) → parts_from k image p i ≡ parts_from k image q i
@@ -202,10 +201,8 @@ same_parts image p q (suc k) i same = rw (same i (omega arith), same_parts image
 
 module _ (image : List ℕ) (o : Options) (stands : TableStands image o.format) {n : ℕ} (counted : n ≡ count_of image o) {l : Layout}
     (laid : l ≡ layout_of image o) where
-  pub layout_fits : (i : ℕ) → i < n → l.by_table ≡ true → l.table.0 + 56 * i + 56 ≤ length image
-  layout_fits i lt =
-      subst⁻¹ (λ (x : Layout). x.by_table ≡ true → x.table.0 + 56 * i + 56 ≤ length image) laid
-      (fits_by image o.kernel_offset i o.format stands (subst (λ k. i < k) counted lt))
+  pub layout_fits : (i : ℕ) → i < n → HeaderLies image l i
+  layout_fits i lt = subst⁻¹ (λ (x : Layout). HeaderLies image x i) laid (fits_by image o.kernel_offset i o.format stands (subst (λ k. i < k) counted lt))
 
   pub layout_parts : parts_from n image (part_in image l) 0 ≡ parts_from (count_of image o) image (part_of image o) 0
   layout_parts =

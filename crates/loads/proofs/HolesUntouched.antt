@@ -1,4 +1,5 @@
 -- "No byte in a hole changes", of a load and of a step of any format, whatever the image, the map and the options, accepted or refused.
+use Rattle.guest.specs.Answers.{Answer}
 use Prim.Native.Nat.{ℕ}
 use mathlib.Core.Path.{◌≡◌}
 use mathlib.Core.Bool.{false}
@@ -6,7 +7,6 @@ use mathlib.Core.List.{List}
 use lib.ListN.{get_or}
 use Rattle.guest.specs.Maps.{ranges_of, in_ranges}
 use Rattle.guest.specs.Room.{memory_of}
-use Rattle.guest.specs.declared.Answer.{Answer}
 use Rattle.guest.specs.declared.Map.{Map}
 use Rattle.guest.proofs.LoadingLaws.{hole_untouched}
 use Rattle.loads.specs.Formats.{plan_of, LoadSays}

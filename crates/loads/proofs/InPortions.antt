@@ -1,5 +1,6 @@
 -- "Load in portions", of a load of any format: any calls from a load that is not started, refused calls anywhere between, are the whole load stopped after
 -- as many bytes as the budgets add up to, and the answer is the whole load's: `in_portions`.
+use Rattle.std.specs.Prelude.{Ok, Err, is_ok}
 use Prim.Native.Nat.{ℕ, zero, suc, ◌+◌, ◌-◌, ◌*◌, ◌≤◌, ◌<◌, min}
 use mathlib.Core.Path.{◌≡◌, sym, ◌∙◌, refl, ap, subst, subst⁻¹}
 use mathlib.Core.Bool.{Bool, true, false}
@@ -14,14 +15,12 @@ use lib.Seq.{take-nil, drop-drop}
 use Rattle.answers.specs.Pick.{pick}
 use Rattle.answers.specs.Tests.{AllHold}
 use Rattle.answers.proofs.PickLaws.{pick_with}
-use Rattle.guest.specs.Answers.{is_loaded}
+use Rattle.guest.specs.Answers.{Answer}
 use Rattle.guest.specs.Lent.{lent_tests}
 use Rattle.guest.specs.Loading.{Plan, Loads}
 use Rattle.guest.specs.Parts.{Place, place_after, parts_from, left_of}
 use Rattle.guest.specs.Room.{memory_of}
 use Rattle.guest.specs.Stream.{Poke, pour}
-use Rattle.guest.specs.declared.Answer.{Answer}
-use Rattle.guest.specs.declared.Answer.TheVariants.{Loaded, Refused}
 use Rattle.guest.specs.declared.Map.{Map}
 use Rattle.guest.specs.declared.Memory.{Memory}
 use Rattle.guest.specs.declared.Part.{Part}
@@ -165,26 +164,26 @@ module _ (image : List ℕ) (m : Memory) (o : Options) where
       }
 
   -- the first, by whether the load loads
-  all_parts : (a : Answer) → answer_of image m o ≡ a → is_loaded (answer_of image m o) ≡ true → parts_from (count_of image o - 0) image (tested_part image m o) 0 ≡ whole
-  unfolding pick is_loaded
-  all_parts (Loaded k) e is =
+  all_parts : (a : Answer) → answer_of image m o ≡ a → is_ok (answer_of image m o) ≡ true → parts_from (count_of image o - 0) image (tested_part image m o) 0 ≡ whole
+  unfolding pick
+  all_parts (Ok k) e is =
       ap (λ n. parts_from n image (tested_part image m o) 0) (let z : count_of image o - 0 ≡ count_of image o = omega arith in z)
       ∙ parts_tested image m o e
       ∙ sym (ap (λ (x : Bool). pick x (parts_from (count_of image o) image (part_of image o) 0) []) is)
-  all_parts (Refused r) e is = let z : ◌≡◌ {A = Bool} false true = sym (ap is_loaded e) ∙ is in let w : ◌≡◌ {A = ℕ} 0 1 = cc in absurd (omega arith)
+  all_parts (Err r) e is = let z : ◌≡◌ {A = Bool} false true = sym (ap is_ok e) ∙ is in let w : ◌≡◌ {A = ℕ} 0 1 = cc in absurd (omega arith)
 
-  no_parts : is_loaded (answer_of image m o) ≡ false → length whole ≡ 0
+  no_parts : is_ok (answer_of image m o) ≡ false → length whole ≡ 0
   unfolding pick
   no_parts e = ap (λ (x : Bool). length (pick x (parts_from (count_of image o) image (part_of image o) 0) [])) e
 
-  started_done : is_loaded (answer_of image m o) ≡ false → (started_state image m o).progress.stage ≡ Done
+  started_done : is_ok (answer_of image m o) ≡ false → (started_state image m o).progress.stage ≡ Done
   unfolding pick begun_with
   started_done e = ap (λ (x : Bool). pick x Copying Done) e
 
   first : (b : ℕ) → Once 0 b (first_step image m o b)
   unfolding first_step begun_with
   first b =
-      pick_with (Once 0 b) (is_loaded (answer_of image m o))
+      pick_with (Once 0 b) (is_ok (answer_of image m o))
       (λ e. goes (started_state image m o) 0 b refl refl refl refl (omega arith) (all_parts (answer_of image m o) refl e))
       (λ e. let empty = no_parts e in stays_there (started_state image m o) 0 b refl (started_done e) refl refl refl (omega arith))
 

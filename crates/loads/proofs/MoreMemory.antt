@@ -1,6 +1,8 @@
 -- "More room never turns one answer into another", of a load of any format: within the size limit and while the old map and the new are valid ones, memory
 -- that grows gives an accepted load the same results and old guest bytes, the added memory untouched; and any refusal not for missing guest room stays as
 -- it was. Memory grows where every room of the old is room of the new: a slice lengthened, a range added, the last range lengthened, and these in turn.
+use Rattle.std.specs.Prelude.{Err}
+use Rattle.guest.specs.Answers.{Answer}
 use Prim.Native.Nat.{ℕ, ◌≤◌}
 use mathlib.Core.Path.{◌≡◌, sym, ◌∙◌, refl}
 use mathlib.Core.Bool.{true}
@@ -13,8 +15,6 @@ use Rattle.guest.specs.Loading.{RefusedFor}
 use Rattle.guest.specs.Maps.{good_map, whole_map}
 use Rattle.guest.specs.Room.{Grows, Larger, memory_of}
 use Rattle.guest.specs.Sizes.{allowed, longest}
-use Rattle.guest.specs.declared.Answer.{Answer}
-use Rattle.guest.specs.declared.Answer.TheVariants.{Refused}
 use Rattle.guest.specs.declared.Map.{Map}
 use Rattle.guest.specs.declared.Memory.{Memory}
 use Rattle.guest.proofs.LoadingLaws.{LiftPlan, load_kept}
@@ -32,7 +32,7 @@ use Rattle.loads.proofs.FormatsLaws.{elf_plan, bzimage_plan, arm64_plan, plan_in
 
 module _ (image : List ℕ) (m m' : Memory) (o : Options) (grows : Grows m m') (both : allowed m'.size ≡ allowed m.size)
     (maps : good_map m'.size m'.map ≡ good_map m.size m.map) where
-  keeps_by : (f : Format) → o.format ≡ f → Keeps (LiftPlan Refused (ForRoom f)) (plan_of image m o) (plan_of image m' o)
+  keeps_by : (f : Format) → o.format ≡ f → Keeps (LiftPlan Err (ForRoom f)) (plan_of image m o) (plan_of image m' o)
   unfolding ForRoom
   keeps_by Elf e =
       rw (elf_plan image m o e, elf_plan image m' o e) (elf.plan_keeps image m m' o.kernel_offset o.highmem_start grows both maps)
@@ -41,17 +41,17 @@ module _ (image : List ℕ) (m m' : Memory) (o : Options) (grows : Grows m m') (
   keeps_by Arm64 e =
       rw (arm64_plan image m o e, arm64_plan image m' o e) (arm64.plan_keeps image m m' (amount_of o.kernel_offset) grows both maps)
 
-  pub plan_keeps : Keeps (LiftPlan Refused (ForRoom o.format)) (plan_of image m o) (plan_of image m' o)
+  pub plan_keeps : Keeps (LiftPlan Err (ForRoom o.format)) (plan_of image m o) (plan_of image m' o)
   plan_keeps = keeps_by o.format refl
 
 -- ---- of the load's contract
 
 module _ (image : List ℕ) (o : Options) (map : Map) (guest more : List ℕ) {r r' : Answer} {after after' : List ℕ} (says : LoadSays image o map guest r after)
-    (short : length (guest ++ more) ≤ longest) (good : good_map (length guest) map ≡ true) (stays : RefusedFor Refused (ForRoom o.format) r → ⊥) where
+    (short : length (guest ++ more) ≤ longest) (good : good_map (length guest) map ≡ true) (stays : RefusedFor Err (ForRoom o.format) r → ⊥) where
   pub guest_grows : (map' : Map) → good_map (length (guest ++ more)) map' ≡ true → Grows (memory_of guest map) (memory_of (guest ++ more) map')
       → LoadSays image o map' (guest ++ more) r' after' → (r' ≡ r) × (after' ≡ after ++ more)
   guest_grows map' good' grows says' =
-      load_kept (plan_of image (memory_of guest map) o) guest after says (RefusedFor Refused (ForRoom o.format)) (memory_of guest map)
+      load_kept (plan_of image (memory_of guest map) o) guest after says (RefusedFor Err (ForRoom o.format)) (memory_of guest map)
       (plan_inside image (memory_of guest map) o) (omega arith)
       (plan_keeps image (memory_of guest map) (memory_of (guest ++ more) map') o grows (allowed_longer guest more short) (good' ∙ sym good)) more says' stays
 
@@ -66,7 +66,7 @@ module _ (image : List ℕ) (o : Options) (map : Map) (guest more : List ℕ) {r
 
 -- "guest memory lengthened at its end", with no map: the whole slice before and after
 pub slice_longer : (image : List ℕ) (o : Options) (guest more : List ℕ) {r r' : Answer} {after after' : List ℕ}
-    → LoadSays image o (whole_map (length guest)) guest r after → length (guest ++ more) ≤ longest → (RefusedFor Refused (ForRoom o.format) r → ⊥)
+    → LoadSays image o (whole_map (length guest)) guest r after → length (guest ++ more) ≤ longest → (RefusedFor Err (ForRoom o.format) r → ⊥)
     → LoadSays image o (whole_map (length (guest ++ more))) (guest ++ more) r' after' → (r' ≡ r) × (after' ≡ after ++ more)
 slice_longer image o guest more says short stays =
     guest_grows image o (whole_map (length guest)) guest more says short (whole_good (length guest)) stays (whole_map (length (guest ++ more)))

@@ -14,8 +14,6 @@ use Rattle.loads.proofs.formats.part.Kinds as part_kinds
 use Rattle.loads.proofs.formats.part.Reads as part_reads
 use Rattle.loads.proofs.formats.memory.Kinds as memory_kinds
 use Rattle.loads.proofs.formats.memory.Reads as memory_reads
-use Rattle.loads.proofs.calls.is_fresh.Kinds as is_fresh_kinds
-use Rattle.loads.proofs.calls.is_fresh.Reads as is_fresh_reads
 use Rattle.loads.proofs.calls.ask.Kinds as ask_kinds
 use Rattle.loads.proofs.calls.ask.Reads as ask_reads
 use Rattle.loads.proofs.calls.begin.Kinds as calls_begin_kinds
@@ -38,7 +36,7 @@ step_one κs a z z' ws ws' p q = (meet p.answer q.answer, first (meet p.memory q
 pub kind_one : OneOutcome 1 kind_kinds.ps kind_kinds.r kind_reads.Post
 kind_one κs a z z' ws ws' p q = (meet p q, refl)
 
-pub plan_one : OneOutcome 1 plan_kinds.ps plan_kinds.r plan_reads.Post
+pub plan_one : OneOutcome 2 plan_kinds.ps plan_kinds.r plan_reads.Post
 plan_one κs a z z' ws ws' p q = (meet p q, refl)
 
 pub count_one : OneOutcome 1 count_kinds.ps count_kinds.r count_reads.Post
@@ -50,13 +48,10 @@ part_one κs a z z' ws ws' p q = (meet p q, refl)
 pub memory_one : OneOutcome 1 memory_kinds.ps memory_kinds.r memory_reads.Post
 memory_one κs a z z' ws ws' p q = (meet p q, refl)
 
-pub is_fresh_one : OneOutcome 0 is_fresh_kinds.ps is_fresh_kinds.r is_fresh_reads.Post
-is_fresh_one κs a z z' ws ws' p q = (meet p q, refl)
-
-pub ask_one : OneOutcome 0 ask_kinds.ps ask_kinds.r ask_reads.Post
+pub ask_one : OneOutcome 1 ask_kinds.ps ask_kinds.r ask_reads.Post
 ask_one κs a z z' ws ws' p q = (meet p q, refl)
 
-pub calls_begin_one : OneOutcome 0 calls_begin_kinds.ps calls_begin_kinds.r calls_begin_reads.Post
+pub calls_begin_one : OneOutcome 1 calls_begin_kinds.ps calls_begin_kinds.r calls_begin_reads.Post
 calls_begin_one κs a z z' ws ws' p q = (meet p q, refl)
 
 pub moved_one : OneOutcome 0 moved_kinds.ps moved_kinds.r moved_reads.Post

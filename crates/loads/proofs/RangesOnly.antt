@@ -1,4 +1,7 @@
 -- A plan depends on the size of memory and on the ranges of its map, and on nothing else: what the unused elements of the map hold makes no difference.
+use Rattle.std.specs.Prelude.{Err, Option}
+use Rattle.guest.specs.declared.GuestAddress.{GuestAddress}
+use Rattle.guest.specs.Answers.{Answer}
 use Prim.Native.Nat.{ℕ}
 use mathlib.Core.Path.{◌≡◌, sym, ◌∙◌, refl, ap}
 use mathlib.Core.Bool.{Bool, true}
@@ -13,10 +16,7 @@ use Rattle.guest.specs.Addresses.{amount_of}
 use Rattle.guest.specs.Lent.{lent_tests}
 use Rattle.guest.specs.Loading.{behind_tests}
 use Rattle.guest.specs.Maps.{ranges_of}
-use Rattle.guest.specs.Room.{room}
-use Rattle.guest.specs.declared.Answer.{Answer}
-use Rattle.guest.specs.declared.Answer.TheVariants.{Refused}
-use Rattle.guest.specs.declared.Given.{Given}
+use Rattle.guest.specs.Room.{room, room_for}
 use Rattle.guest.specs.declared.Memory.{Memory}
 use Rattle.guest.proofs.RoomLaws.{room_ranges, lent_ranges}
 use Rattle.elf.specs.Header.{header_tests, e_phnum_of}
@@ -41,27 +41,27 @@ module _ (image : List ℕ) (m m' : Memory) (size : m.size ≡ m'.size) (count :
   rooms : (address n : ℕ) → room m address n ≡ room m' address n
   rooms = room_ranges m m' size count ranges
 
-  elf_same : (offset highmem : Given) → elf.plan_of image m offset highmem ≡ elf.plan_of image m' offset highmem
+  elf_same : (offset highmem : Option GuestAddress) → elf.plan_of image m offset highmem ≡ elf.plan_of image m' offset highmem
   elf_same offset highmem =
-      ap (λ (row : List Test). behind_tests Refused (row ++ header_tests image offset highmem) (elf.survey_plan image offset (survey_of image (room m) offset))) rows
-      ∙ ap (λ (a : Answer). behind_tests Refused (lent_tests (length image) m' ++ header_tests image offset highmem) (elf.survey_plan image offset a))
+      ap (λ (row : List Test). behind_tests Err (row ++ header_tests image offset highmem) (elf.survey_plan image offset (survey_of image (room m) offset))) rows
+      ∙ ap (λ (a : Answer). behind_tests Err (lent_tests (length image) m' ++ header_tests image offset highmem) (elf.survey_plan image offset a))
       (survey_same (room m) (room m') (λ address n _. rooms address n) (e_phnum_of image) image offset 0 (blank (load_address image offset)))
 
-  bzimage_same : (offset highmem : Given) → bzimage.plan_of image m offset highmem ≡ bzimage.plan_of image m' offset highmem
-  unfolding bzimage.room_for
+  bzimage_same : (offset highmem : Option GuestAddress) → bzimage.plan_of image m offset highmem ≡ bzimage.plan_of image m' offset highmem
+  unfolding room_for
   bzimage_same offset highmem =
       let plan = bzimage.kernel_plan image (load_of image offset) in
       let tested = bzimage.image_tests image highmem in
-      ap (λ (row : List Test). behind_tests Refused (row ++ tested ++ bzimage.room_tests image m offset) plan) rows
-      ∙ ap (λ (b : Bool). behind_tests Refused (lent_tests (length image) m' ++ tested ++ ((pick (eqb (kernel_size image) 0) true b, ReadBzImageCompressedKernel) ∷ [])) plan)
+      ap (λ (row : List Test). behind_tests Err (row ++ tested ++ bzimage.room_tests image m offset) plan) rows
+      ∙ ap (λ (b : Bool). behind_tests Err (lent_tests (length image) m' ++ tested ++ ((pick (eqb (kernel_size image) 0) true b, ReadBzImageCompressedKernel) ∷ [])) plan)
       (rooms (load_of image offset).0 (kernel_size image))
 
   arm64_same : (base : ℕ) → arm64.plan_of image m base ≡ arm64.plan_of image m' base
   arm64_same base =
       let tested = arm64.image_tests image base in
-      ap (λ (row : List Test). behind_tests Refused (row ++ tested ++ arm64.place_tests image m base) (arm64.image_plan image base)) rows
+      ap (λ (row : List Test). behind_tests Err (row ++ tested ++ arm64.place_tests image m base) (arm64.image_plan image base)) rows
       ∙ ap
-      (λ (b : Bool). behind_tests Refused
+      (λ (b : Bool). behind_tests Err
       (lent_tests (length image) m' ++ tested ++ ((b, NoRoomForImage) ∷ (fits64 (start_of image base) (image_size image), ImageEndWraps) ∷ []))
       (arm64.image_plan image base))
       (rooms (start_of image base) (length image))

@@ -1,6 +1,7 @@
 -- Laws of a load in steps: a call that is refused, a step after the answer, what any step keeps to, and a step as the code takes it.
+use Rattle.std.specs.Prelude.{Ok, Err, is_ok}
 use Prim.Native.Nat.{ℕ, ◌-◌, ◌≤◌, ◌<◌}
-use mathlib.Core.Path.{◌≡◌, sym, ◌∙◌, refl, ap, subst, subst⁻¹}
+use mathlib.Core.Path.{◌≡◌, sym, ◌∙◌, refl, ap, subst⁻¹}
 use mathlib.Core.Bool.{Bool, true, false, not, ◌&&◌}
 use mathlib.Core.List.{List}
 use native.Mathlib.Omega.{arith}
@@ -8,30 +9,26 @@ use borrow.Author.Tests.{lt-ltb, eq-eqb}
 use lib.Dec.{eqb}
 use lib.ListN.{length, drop, length-take, length-drop}
 use Rattle.answers.specs.Pick.{pick}
-use Rattle.answers.specs.Tests.{asked_all, AllHold}
-use Rattle.answers.specs.declared.Gate.{Gate}
-use Rattle.answers.specs.declared.Gate.TheVariants.{Open, Shut}
+use Rattle.answers.specs.Tests.{asked_all, AllHold, Check, pass}
 use Rattle.answers.specs.declared.Refusal.{Refusal}
 use Rattle.answers.proofs.BoolLaws.{right_holds}
-use Rattle.answers.proofs.PickLaws.{pick_with, failed, held}
+use Rattle.answers.proofs.PickLaws.{pick_with, failed}
 use Rattle.answers.proofs.TestsLaws.{all_open, hold_append}
-use Rattle.guest.specs.Answers.{is_loaded}
+use Rattle.guest.specs.Answers.{Answer}
 use Rattle.guest.specs.Lent.{lent_tests}
 use Rattle.guest.specs.Loading.{Plan, Loads}
-use Rattle.guest.specs.Parts.{parts_from, portion_of}
+use Rattle.guest.specs.Parts.{parts_from}
 use Rattle.guest.specs.Room.{same_memory, memory_of}
 use Rattle.guest.specs.Stream.{Inside, none, pour}
-use Rattle.guest.specs.declared.Answer.{Answer}
 use Rattle.guest.specs.declared.Map.{Map}
 use Rattle.guest.specs.declared.Memory.{Memory}
-use Rattle.guest.specs.declared.Portion.{Portion}
 use Rattle.guest.proofs.PartsLaws.{parts_inside}
 use Rattle.guest.proofs.RoomLaws.{memory_self}
 use Rattle.guest.proofs.StreamLaws.{inside_take, inside_drop}
-use Rattle.loads.specs.Calls.{begun_with, moved_to, is_fresh, as_first, budget_tests, step_tests}
+use Rattle.loads.specs.Calls.{begun_with, is_fresh, as_first, budget_tests, step_tests}
 use Rattle.loads.specs.Formats.{answer_of, count_of}
 use Rattle.loads.specs.Portions.{Bounded}
-use Rattle.loads.specs.Steps.{tested_part, started_state, unchanged, stays, reply_after, next_portion, first_step, by_stage, if_open, step_plan, StepSays}
+use Rattle.loads.specs.Steps.{tested_part, started_state, unchanged, stays, next_portion, first_step, by_stage, if_open, step_plan, StepSays}
 use Rattle.loads.specs.declared.Options.{Options}
 use Rattle.loads.specs.declared.Progress.{Progress}
 use Rattle.loads.specs.declared.Stage.{Stage}
@@ -41,10 +38,6 @@ use Rattle.loads.specs.declared.steps.Reply.TheVariants as reply
 use Rattle.loads.specs.declared.steps.State.{State}
 use Rattle.loads.specs.declared.steps.Stepped.{Stepped}
 use Rattle.loads.proofs.FormatsLaws.{parts_stand}
-
-picked_true : {A : Type 0} (b : Bool) (x y : A) → b ≡ true → pick b x y ≡ x
-unfolding pick
-picked_true b x y e = rw e
 
 picked_false : {A : Type 0} (b : Bool) (x y : A) → b ≡ false → pick b x y ≡ y
 unfolding pick
@@ -72,7 +65,7 @@ module _ (image : List ℕ) (m : Memory) (st : State) (b : ℕ) where
       (hold_append (lent_tests (length image) m) (budget_tests st.progress (length image) m b) lent (lt-ltb 0 b positive, (first, tt))))
 
   -- 60, 77, 63, 64, the first that fails: the state, memory and the answer are as they were
-  pub step_refused : {r : Refusal} → asked_all Open (step_tests st.progress (length image) m b) ≡ Shut r → step_plan image m st b ≡ stays st (reply.Refused r)
+  pub step_refused : {r : Refusal} → asked_all pass (step_tests st.progress (length image) m b) ≡ Err r → step_plan image m st b ≡ stays st (reply.Refused r)
   unfolding step_plan
   step_refused e = ap (λ g. if_open g st (by_stage st.progress.stage image m st b)) e
 
@@ -83,11 +76,7 @@ module _ (image : List ℕ) (m : Memory) (st : State) (b : ℕ) where
 
 -- the first step, by whether the load loads
 module _ (image : List ℕ) (m : Memory) (o : Options) (b : ℕ) where
-  first_loads : is_loaded (answer_of image m o) ≡ true → first_step image m o b ≡ next_portion image m (started_state image m o) b
-  unfolding first_step
-  first_loads e = picked_true _ (next_portion image m (started_state image m o) b) (stays (started_state image m o) (reply.Answers (answer_of image m o))) e
-
-  first_refused : is_loaded (answer_of image m o) ≡ false → first_step image m o b ≡ stays (started_state image m o) (reply.Answers (answer_of image m o))
+  first_refused : is_ok (answer_of image m o) ≡ false → first_step image m o b ≡ stays (started_state image m o) (reply.Answers (answer_of image m o))
   unfolding first_step
   first_refused e = picked_false _ (next_portion image m (started_state image m o) b) (stays (started_state image m o) (reply.Answers (answer_of image m o))) e
 
@@ -118,18 +107,18 @@ module _ (image : List ℕ) (m : Memory) where
   stage_bounded : (stage : Stage) (st : State) (b : ℕ) → PlanBounded m b (by_stage stage image m st b)
   unfolding first_step
   stage_bounded Fresh st b =
-      pick_with (PlanBounded m b) (is_loaded (answer_of image m st.options)) (λ _. goes_bounded (started_state image m st.options) b)
+      pick_with (PlanBounded m b) (is_ok (answer_of image m st.options)) (λ _. goes_bounded (started_state image m st.options) b)
       (λ _. stays_bounded m b (started_state image m st.options) (reply.Answers (answer_of image m st.options)))
   stage_bounded Copying st b = goes_bounded st b
   stage_bounded Done st b = stays_bounded m b st (reply.Answers st.answer)
 
   pub plan_bounded : (st : State) (b : ℕ) → PlanBounded m b (step_plan image m st b)
   unfolding step_plan
-  plan_bounded st b = by (asked_all Open (step_tests st.progress (length image) m b))
+  plan_bounded st b = by (asked_all pass (step_tests st.progress (length image) m b))
     where
-      by : (g : Gate) → PlanBounded m b (if_open g st (by_stage st.progress.stage image m st b))
-      by Open = stage_bounded st.progress.stage st b
-      by (Shut r) = stays_bounded m b st (reply.Refused r)
+      by : (g : Check) → PlanBounded m b (if_open g st (by_stage st.progress.stage image m st b))
+      by (Ok _) = stage_bounded st.progress.stage st b
+      by (Err r) = stays_bounded m b st (reply.Refused r)
 
 pub any_step : (image : List ℕ) (st : State) (b : ℕ) (map : Map) (before after : List ℕ) {r : Stepped} → StepSays image st b map before r after
     → Bounded (memory_of before map) b before r after
@@ -147,25 +136,14 @@ any_step image st b map before after says =
 -- ---- a step, as the code takes it
 
 module _ (image : List ℕ) (m : Memory) (budget : ℕ) (guest : List ℕ) where
-  -- the next portion, returned as a step
-  pub went_on : (st : State) {portion : Portion} {after : List ℕ} {progress : Progress} {r : Reply}
-      → Loads (portion_of (count_of image st.options) image (tested_part image m st.options) st.progress.at st.progress.done budget) guest portion after
-      → progress ≡ moved_to st.progress portion → r ≡ reply_after portion.all st.answer
-      → Loads (next_portion image m st budget) guest
-      (record { state = record { progress = progress; answer = st.answer; options = st.options }; copied = portion.copied; reply = r }) after
-  went_on st loads eg er = record { answer = rw (eg, er, loads.answer); memory = loads.memory }
-
   -- the first step: the whole load's answer, and where the load is
-  module _ (o : Options) {answer : Answer} {loads : Bool} {progress : Progress} (ea : answer ≡ answer_of image m o) (el : loads ≡ is_loaded answer)
+  module _ (o : Options) {answer : Answer} {loads : Bool} {progress : Progress} (ea : answer ≡ answer_of image m o) (el : loads ≡ is_ok answer)
       (eg : progress ≡ begun_with loads (length image) m) where
     abbrev started : State
     started = record { progress = progress; answer = answer; options = o }
 
-    loads_is : loads ≡ is_loaded (answer_of image m o)
-    loads_is = el ∙ ap is_loaded ea
-
-    started_is : started ≡ started_state image m o
-    started_is = rw (eg, loads_is, ea)
+    loads_is : loads ≡ is_ok (answer_of image m o)
+    loads_is = el ∙ ap is_ok ea
 
     pub first_stays : not loads ≡ true → {r : Stepped} → r ≡ unchanged started (reply.Answers answer) → Loads (first_step image m o budget) guest r guest
     unfolding pour
@@ -173,20 +151,14 @@ module _ (image : List ℕ) (m : Memory) (budget : ℕ) (guest : List ℕ) where
         subst⁻¹ (λ p. Loads p guest r guest) (first_refused image m o budget (sym loads_is ∙ failed refl refuses))
         (record { answer = er ∙ rw (eg, loads_is, ea); memory = refl })
 
-    pub first_goes : not loads ≡ false → {r : Stepped} {after : List ℕ} → Loads (next_portion image m started budget) guest r after
-        → Loads (first_step image m o budget) guest r after
-    first_goes goes {r} {after} on =
-        subst⁻¹ (λ p. Loads p guest r after) (first_loads image m o budget (sym loads_is ∙ held refl goes))
-        (subst (λ (x : State). Loads (next_portion image m x budget) guest r after) started_is on)
-
   -- a call after its tests
-  pub call_refused : (st : State) {gate : Gate} {refusal : Refusal} {r : Stepped} → gate ≡ asked_all Open (step_tests st.progress (length image) m budget)
-      → gate ≡ Shut refusal → r ≡ unchanged st (reply.Refused refusal) → Loads (step_plan image m st budget) guest r guest
+  pub call_refused : (st : State) {gate : Check} {refusal : Refusal} {r : Stepped} → gate ≡ asked_all pass (step_tests st.progress (length image) m budget)
+      → gate ≡ Err refusal → r ≡ unchanged st (reply.Refused refusal) → Loads (step_plan image m st budget) guest r guest
   unfolding step_plan pour
   call_refused st ask shut er = rw (sym ask ∙ shut) (record { answer = er; memory = refl })
 
-  pub call_opens : (st : State) {gate : Gate} {stage : Stage} {r : Stepped} {after : List ℕ}
-      → gate ≡ asked_all Open (step_tests st.progress (length image) m budget) → gate ≡ Open → st.progress.stage ≡ stage
+  pub call_opens : (st : State) {gate : Check} {stage : Stage} {r : Stepped} {after : List ℕ}
+      → gate ≡ asked_all pass (step_tests st.progress (length image) m budget) → gate ≡ pass → st.progress.stage ≡ stage
       → Loads (by_stage stage image m st budget) guest r after → Loads (step_plan image m st budget) guest r after
   unfolding step_plan
   call_opens st {r = r} {after = after} ask opened es loads =

@@ -1,5 +1,6 @@
 -- The whole load is the one step with a budget that is large enough, of a load of any format: from a load that is not started it leaves guest memory as the
 -- load does, and replies with its answer.
+use Rattle.guest.specs.Answers.{Answer}
 use Prim.Native.Nat.{ℕ, ◌+◌, ◌≤◌, ◌<◌}
 use mathlib.Core.Path.{◌≡◌, refl, sym, ◌∙◌, ap}
 use mathlib.Core.Bool.{Bool}
@@ -13,7 +14,6 @@ use Rattle.answers.specs.Tests.{AllHold}
 use Rattle.guest.specs.Lent.{lent_tests}
 use Rattle.guest.specs.Room.{memory_of}
 use Rattle.guest.specs.Stream.{Poke, pour}
-use Rattle.guest.specs.declared.Answer.{Answer}
 use Rattle.guest.specs.declared.Map.{Map}
 use Rattle.loads.specs.Formats.{plan_of, LoadSays}
 use Rattle.loads.specs.Portions.{total, none}

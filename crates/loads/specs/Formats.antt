@@ -1,15 +1,14 @@
 -- What each format gives of a load: its answer, and its parts by number. All else is said of these.
-use Rattle.std.specs.Prelude.{List, [], ℕ, eqb}
+use Rattle.guest.specs.declared.GuestAddress.{GuestAddress}
+use Rattle.std.specs.Prelude.{List, [], ℕ, eqb, Option, is_ok}
 use Rattle.answers.specs.Pick.{pick}
 use Rattle.guest.specs.Addresses.{amount_of}
-use Rattle.guest.specs.Answers.{is_loaded}
+use Rattle.guest.specs.Answers.{Answer}
 use Rattle.guest.specs.Extents.{no_extent}
 use Rattle.guest.specs.Loading.{Plan, Loads}
 use Rattle.guest.specs.Parts.{no_part, parts_from}
 use Rattle.guest.specs.Room as guest
-use Rattle.guest.specs.declared.Answer.{Answer}
 use Rattle.guest.specs.declared.Extent.{Extent}
-use Rattle.guest.specs.declared.Given.{Given}
 use Rattle.guest.specs.declared.Map.{Map}
 use Rattle.guest.specs.declared.Memory.{Memory}
 use Rattle.guest.specs.declared.Part.{Part}
@@ -28,7 +27,7 @@ use Rattle.loads.specs.declared.Format.TheVariants.{Elf, BzImage, Arm64}
 use Rattle.loads.specs.declared.Options.{Options}
 
 -- the answer
-unfoldable pub answer_by : Format → List ℕ → Memory → Given → Given → Answer
+unfoldable pub answer_by : Format → List ℕ → Memory → Option GuestAddress → Option GuestAddress → Answer
 answer_by Elf image m offset highmem = (elf.plan_of image m offset highmem).answer
 answer_by BzImage image m offset highmem = (bzimage.plan_of image m offset highmem).answer
 answer_by Arm64 image m offset highmem = (arm64.plan_of image m (amount_of offset)).answer
@@ -39,25 +38,21 @@ count_by Elf image = e_phnum_of image
 count_by BzImage image = 1
 count_by Arm64 image = 1
 
--- the part of a load that has one only, by its number
-unfoldable pub only_at : Part → ℕ → Part
-only_at part i = pick (eqb i 0) part no_part
+-- element i of a list that has one element only
+unfoldable pub only_at : {A : Type 0} → A → A → ℕ → A
+only_at one none i = pick (eqb i 0) one none
 
 -- part i
-unfoldable pub part_by : Format → List ℕ → Given → ℕ → Part
+unfoldable pub part_by : Format → List ℕ → Option GuestAddress → ℕ → Part
 part_by Elf image offset i = elf_parts.part_of image offset i
-part_by BzImage image offset i = only_at (bzimage_parts.part_of image offset) i
-part_by Arm64 image offset i = only_at (arm64_parts.part_of image (amount_of offset)) i
-
--- the memory of a load that has one range only, by its number
-unfoldable pub only_memory : Extent → ℕ → Extent
-only_memory memory i = pick (eqb i 0) memory no_extent
+part_by BzImage image offset i = only_at (bzimage_parts.part_of image offset) no_part i
+part_by Arm64 image offset i = only_at (arm64_parts.part_of image (amount_of offset)) no_part i
 
 -- the memory that part i takes, which may be more than its bytes
-unfoldable pub memory_by : Format → List ℕ → Given → ℕ → Extent
+unfoldable pub memory_by : Format → List ℕ → Option GuestAddress → ℕ → Extent
 memory_by Elf image offset i = elf_memory.memory_of image offset i
-memory_by BzImage image offset i = only_memory (bzimage_protocol.runtime_memory image offset) i
-memory_by Arm64 image offset i = only_memory (arm64_memory.memory_of image (amount_of offset)) i
+memory_by BzImage image offset i = only_at (bzimage_protocol.runtime_memory image offset) no_extent i
+memory_by Arm64 image offset i = only_at (arm64_memory.memory_of image (amount_of offset)) no_extent i
 
 -- the same by the options of a load
 abbrev pub answer_of : List ℕ → Memory → Options → Answer
@@ -77,7 +72,7 @@ abbrev pub plan_of : List ℕ → Memory → Options → Plan Answer
 plan_of image m o =
     record {
       answer = answer_of image m o;
-      stream = pick (is_loaded (answer_of image m o)) (parts_from (count_of image o) image (part_of image o) 0) [];
+      stream = pick (is_ok (answer_of image m o)) (parts_from (count_of image o) image (part_of image o) 0) [];
     }
 
 -- a load of an image into guest memory with a map that held `before`: it answers r and leaves `after`

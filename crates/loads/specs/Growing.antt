@@ -1,10 +1,10 @@
 -- What theorems compare a load with: memory that grows, memory with no map, and another image with the same bytes where a plan looks.
-use Rattle.std.specs.Prelude.{List, ℕ}
+use Rattle.guest.specs.declared.GuestAddress.{GuestAddress}
+use Rattle.guest.specs.Answers.{Answer}
+use Rattle.std.specs.Prelude.{List, ℕ, Option}
 use Rattle.answers.specs.declared.Refusal.{Refusal}
 use Rattle.guest.specs.Addresses.{amount_of}
 use Rattle.guest.specs.Loading.{Plan}
-use Rattle.guest.specs.declared.Answer.{Answer}
-use Rattle.guest.specs.declared.Given.{Given}
 use Rattle.elf.specs.Footprint as elf_footprint
 use Rattle.elf.specs.Lengthening as elf
 use Rattle.elf.specs.WholeSlice as elf_slice
@@ -25,7 +25,7 @@ ForRoom BzImage = bzimage.ForRoom
 ForRoom Arm64 = arm64.ForRoom
 
 -- the plan of a load into a slice of this length with no map
-unfoldable pub plan_within_by : Format → List ℕ → ℕ → Given → Given → Plan Answer
+unfoldable pub plan_within_by : Format → List ℕ → ℕ → Option GuestAddress → Option GuestAddress → Plan Answer
 plan_within_by Elf image size offset highmem = elf_slice.plan_within image size offset highmem
 plan_within_by BzImage image size offset highmem = bzimage_slice.plan_within image size offset highmem
 plan_within_by Arm64 image size offset highmem = arm64_slice.plan_within image size (amount_of offset)
@@ -34,7 +34,7 @@ abbrev pub plan_within : List ℕ → ℕ → Options → Plan Answer
 plan_within image size o = plan_within_by o.format image size o.kernel_offset o.highmem_start
 
 -- two images of one length that hold the same bytes where a plan looks
-unfoldable pub SameFootprint : Format → List ℕ → List ℕ → Given → Type 0
+unfoldable pub SameFootprint : Format → List ℕ → List ℕ → Option GuestAddress → Type 0
 SameFootprint Elf s t offset = elf_footprint.SameFootprint s t offset
 SameFootprint BzImage s t offset = bzimage_footprint.SameFootprint s t
 SameFootprint Arm64 s t offset = arm64_footprint.SameFootprint s t

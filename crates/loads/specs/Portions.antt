@@ -1,12 +1,11 @@
 -- Calls of `step` one after the other, over one image and one memory; and "load in portions".
-use Rattle.std.specs.Prelude.{ℕ, suc, ◌+◌, ◌-◌, ◌/◌, ◌≤◌, ◌<◌, min, max, ◌≡◌, List, [], ◌∷◌, leb, length, take, drop, replicate}
-use Rattle.answers.specs.Tests.{asked_all}
-use Rattle.answers.specs.declared.Gate.TheVariants.{Open, Shut}
+use Rattle.guest.specs.Answers.{Answer}
+use Rattle.std.specs.Prelude.{ℕ, suc, ◌+◌, ◌-◌, ◌/◌, ◌≤◌, ◌<◌, min, max, ◌≡◌, List, [], ◌∷◌, leb, length, take, drop, replicate, Err}
+use Rattle.answers.specs.Tests.{asked_all, pass}
 use Rattle.answers.specs.declared.Refusal.{Refusal}
 use Rattle.guest.specs.Loading.{Plan}
 use Rattle.guest.specs.Room.{memory_of}
 use Rattle.guest.specs.Stream.{Poke, Inside, pour}
-use Rattle.guest.specs.declared.Answer.{Answer}
 use Rattle.guest.specs.declared.Map.{Map}
 use Rattle.guest.specs.declared.Memory.{Memory}
 use Rattle.loads.specs.Calls.{step_tests}
@@ -26,7 +25,7 @@ pub data Calls (image : List ℕ) (m : Memory) (from : State) (first : List ℕ)
   step : {bs guest : List ℕ} {n : ℕ} {st : State} (b : ℕ) → 0 < b → {map : Map} → memory_of guest map ≡ m → {r : Stepped} {after : List ℕ}
       → StepSays image st b map guest r after → Calls image m from first bs guest n st → Calls image m from first (b ∷ bs) after (n + r.copied) r.state
   no_step : {bs guest : List ℕ} {n : ℕ} {st : State} (image' : List ℕ) (map : Map) (b : ℕ) {refusal : Refusal}
-      → asked_all Open (step_tests st.progress (length image') (memory_of guest map) b) ≡ Shut refusal → {r : Stepped} {after : List ℕ}
+      → asked_all pass (step_tests st.progress (length image') (memory_of guest map) b) ≡ Err refusal → {r : Stepped} {after : List ℕ}
       → StepSays image' st b map guest r after → Calls image m from first bs guest n st → Calls image m from first bs after (n + r.copied) r.state
 
 -- the step that answers, of equal budgets b over t bytes: the first, or t divided by b rounded up if that is greater

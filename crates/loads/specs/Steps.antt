@@ -1,16 +1,12 @@
 -- A load taken in steps, each with a budget of bytes: what a step says and writes is `take` and `drop` on the parts of the load.
-use Rattle.std.specs.Prelude.{Bool, List, [], ℕ, length}
+use Rattle.std.specs.Prelude.{Bool, List, [], ℕ, length, Ok, Err, is_ok}
 use Rattle.answers.specs.Pick.{pick}
-use Rattle.answers.specs.Tests.{asked_all}
-use Rattle.answers.specs.declared.Gate.{Gate}
-use Rattle.answers.specs.declared.Gate.TheVariants.{Open, Shut}
+use Rattle.answers.specs.Tests.{asked_all, Check, pass}
 use Rattle.answers.specs.declared.Refusal.TheVariants.{NoBudget}
-use Rattle.guest.specs.Answers.{is_loaded}
+use Rattle.guest.specs.Answers.{Answer}
 use Rattle.guest.specs.Loading.{Plan, Loads}
 use Rattle.guest.specs.Parts.{kept_part, portion_of}
 use Rattle.guest.specs.Room.{memory_of}
-use Rattle.guest.specs.declared.Answer.{Answer}
-use Rattle.guest.specs.declared.Answer.TheVariants as answer
 use Rattle.guest.specs.declared.Map.{Map}
 use Rattle.guest.specs.declared.Memory.{Memory}
 use Rattle.guest.specs.declared.Part.{Part}
@@ -31,13 +27,13 @@ tested_part image m o i = kept_part (length image) m (part_of image o i)
 
 -- a load that is not started; its answer does not count
 abbrev pub fresh_state : Options → State
-fresh_state o = record { progress = fresh_progress; answer = answer.Refused NoBudget; options = o }
+fresh_state o = record { progress = fresh_progress; answer = Err NoBudget; options = o }
 
 -- the state of a load that starts
 abbrev pub started_state : List ℕ → Memory → Options → State
 started_state image m o =
     record {
-      progress = begun_with (is_loaded (answer_of image m o)) (length image) m;
+      progress = begun_with (is_ok (answer_of image m o)) (length image) m;
       answer = answer_of image m o;
       options = o;
     }
@@ -73,7 +69,7 @@ next_portion image m st budget =
 -- the first step: all is tested before anything is copied, and a refused load copies nothing
 unfoldable pub first_step : List ℕ → Memory → Options → ℕ → Plan Stepped
 first_step image m o budget =
-    pick (is_loaded (answer_of image m o)) (next_portion image m (started_state image m o) budget)
+    pick (is_ok (answer_of image m o)) (next_portion image m (started_state image m o) budget)
     (stays (started_state image m o) (Answers (answer_of image m o)))
 
 -- a step, by how far the load is
@@ -83,13 +79,13 @@ by_stage Copying image m st budget = next_portion image m st budget
 by_stage Done image m st budget = stays st (Answers st.answer)
 
 -- a call after its tests: one that is refused is no step
-abbrev pub if_open : Gate → State → Plan Stepped → Plan Stepped
-if_open Open st plan = plan
-if_open (Shut r) st plan = stays st (Refused r)
+abbrev pub if_open : Check → State → Plan Stepped → Plan Stepped
+if_open (Ok _) st plan = plan
+if_open (Err r) st plan = stays st (Refused r)
 
 unfoldable pub step_plan : List ℕ → Memory → State → ℕ → Plan Stepped
 step_plan image m st budget =
-    if_open (asked_all Open (step_tests st.progress (length image) m budget)) st (by_stage st.progress.stage image m st budget)
+    if_open (asked_all pass (step_tests st.progress (length image) m budget)) st (by_stage st.progress.stage image m st budget)
 
 -- a step of a load into guest memory with a map that held `before`: it returns r and leaves `after`
 abbrev pub StepSays : List ℕ → State → ℕ → Map → List ℕ → Stepped → List ℕ → Type 0

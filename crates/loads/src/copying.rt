@@ -10,21 +10,19 @@ ghost use Rattle.loads.specs.Steps.{tested_part};
 use crate::{Options, formats};
 use guest::{Memory, Portion, copying, parts};
 
-// All bytes of a load that is accepted: its parts have room, and are not tested again.
+// All bytes of a load that is accepted: its parts have room, and are not tested again. It is not inlined, so that its
+// frame is not part of that of `load`, which calls the plan.
+#[inline(never)]
 pub(crate) fn copy_all(guest: &mut [u8], image: &[u8], options: Options)
     requires { TableStands image.now options.format }
-    ensures { guest.new ≡ pour (parts_from (count_of image.now options) image.now (part_of image.now options) 0) guest.old }
+    ensures { guest.new ≡ pour (parts_from (count_of image.now options) image.now (part_of image.now options) 0)
+        guest.old }
 {
     let layout = formats::read_layout(image, options);
     let n = formats::count(image, options);
-    let mut i: u64 = 0;
-    while i < n {
+    for i in 0..n {
         let part = formats::part_in(image, layout, i);
-        let address = part.address;
-        let place = part.place;
-        let size = part.size;
-        copying::copy_image(guest, address, image, place, size);
-        i += 1;
+        copying::copy_image(guest, part.address, image, part.place, part.size);
     }
 }
 
@@ -32,23 +30,23 @@ pub(crate) fn copy_all(guest: &mut [u8], image: &[u8], options: Options)
 // an earlier step: every part is tested again.
 pub(crate) fn copy_some(
     guest: &mut [u8],
-    memory: Memory,
+    memory: &Memory,
     image: &[u8],
     options: Options,
     at: u64,
     done: u64,
     budget: u64,
 ) -> Portion
-    ensures { Loads (portion_of (count_of image.now options) image.now (tested_part image.now memory options) at done budget) guest.old result guest.new }
+    ensures { Loads (portion_of (count_of image.now options) image.now (tested_part image.now memory.now options) at
+        done budget) guest.old result guest.new }
 {
     let n = formats::count(image, options);
-    let mut i = at;
     let mut q = done;
     let mut left = budget;
-    while i < n {
+    for i in at..n {
         let part = formats::part(image, options, i);
         let copied = parts::copy_part(guest, memory, image, part, q, left);
-        let passed = parts::lesser(q, copied.size);
+        let passed = q.min(copied.size);
         let k = copied.count;
         if k < copied.size - passed {
             return Portion {
@@ -58,12 +56,11 @@ pub(crate) fn copy_some(
                 all: false,
             };
         }
-        left = left - k;
-        q = q - passed;
-        i += 1;
+        left -= k;
+        q -= passed;
     }
     Portion {
-        at: i,
+        at: at.max(n),
         done: 0,
         copied: budget - left,
         all: true,

@@ -1,10 +1,11 @@
 // Loads of every format. A format gives its plan and its parts by number; what is done with them is said once, here:
 // the whole load, the load in steps, and the parts for callers that copy by themselves.
-#![tactic(auto)]
+#![tactic(auto, unfolding(answers::specs::Pick::pick, answers::specs::Tests::asked, crate::specs::Formats::answer_by, crate::specs::Formats::count_by, crate::specs::Formats::part_by, crate::specs::Formats::memory_by, crate::specs::Formats::only_at, crate::specs::Layout::layout_by, crate::specs::Layout::part_in, crate::specs::Calls::moved_to, crate::specs::Calls::begun_with, crate::specs::Calls::is_fresh, crate::specs::Calls::as_first, crate::specs::Steps::reply_after, crate::specs::Steps::first_step, crate::specs::Steps::step_plan, crate::specs::Kinds::kind_of))]
 
 ghost use Rattle.loads.specs.Formats.{LoadSays};
 
-use guest::{Answer, Given, Map, Memory};
+use answers::Refusal;
+use guest::{GuestAddress, KernelLoaderResult, Map, Memory};
 
 pub mod calls;
 mod copying;
@@ -12,7 +13,7 @@ pub mod formats;
 pub mod steps;
 
 // The formats of kernel images.
-#[derive(Clone, Copy)]
+#[derive(Clone, Copy, PartialEq, Eq)]
 pub enum Format {
     Elf,
     BzImage,
@@ -23,12 +24,12 @@ pub enum Format {
 #[derive(Clone, Copy)]
 pub struct Options {
     pub format: Format,
-    pub kernel_offset: Given,
-    pub highmem_start: Given,
+    pub kernel_offset: Option<GuestAddress>,
+    pub highmem_start: Option<GuestAddress>,
 }
 
 // How far a load in steps is: not started, copying, or answered.
-#[derive(Clone, Copy)]
+#[derive(Clone, Copy, PartialEq, Eq)]
 pub enum Stage {
     Fresh,
     Copying,
@@ -47,19 +48,15 @@ pub struct Progress {
 }
 
 // Loads an image into guest memory, which the map's ranges are.
-pub fn load(guest: &mut [u8], map: Map, image: &[u8], options: Options) -> Answer
+pub fn load(
+    guest: &mut [u8],
+    map: Map,
+    image: &[u8],
+    options: Options,
+) -> Result<KernelLoaderResult, Refusal>
     ensures { LoadSays image.now options map guest.old result guest.new }
 {
-    let memory = Memory {
-        size: guest.len() as u64,
-        map: map,
-    };
-    let answer = formats::plan(memory, image, options);
-    match answer {
-        Answer::Refused(_) => answer,
-        Answer::Loaded(_) => {
-            copying::copy_all(guest, image, options);
-            answer
-        }
-    }
+    let kernel = formats::plan(&Memory::of(guest, map), image, options)?;
+    copying::copy_all(guest, image, options);
+    Ok(kernel)
 }

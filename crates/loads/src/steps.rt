@@ -1,27 +1,27 @@
 // A load taken in steps, each with a budget of bytes. The state is the caller's, by value.
 ghost use Rattle.std.specs.Prelude.{◌≡◌};
-ghost use Rattle.guest.specs.Answers.{is_loaded};
 ghost use Rattle.guest.specs.Loading.{Loads};
 ghost use Rattle.loads.specs.Steps.{fresh_state, unchanged, reply_after, next_portion, first_step, StepSays};
 
 use crate::{Options, Progress, Stage, calls, copying, formats};
-use answers::{Gate, Refusal};
-use guest::{Answer, Map, Memory};
+use answers::Refusal;
+use guest::{KernelLoaderResult, Map, Memory};
 
 // A load between two steps: how far it is, its answer, which counts once it has started, and the options that it was
-// made with.
+// made with. The answer is no `Option`, since the C state has its numbers before the first step, too.
 #[derive(Clone, Copy)]
 pub struct State {
     pub progress: Progress,
-    pub answer: Answer,
+    pub answer: Result<KernelLoaderResult, Refusal>,
     pub options: Options,
 }
 
-// What a step replies: there is more to copy, the load's answer, or that the call was no step.
+// What a step replies: there is more to copy, the load's answer, or that the call was refused and was no step. Three
+// outcomes: in a `Result<Option<Result<..>>, Refusal>` only the depth would tell the refusal of a call from the load's.
 #[derive(Clone, Copy)]
 pub enum Reply {
     More,
-    Answers(Answer),
+    Answers(Result<KernelLoaderResult, Refusal>),
     Refused(Refusal),
 }
 
@@ -39,17 +39,8 @@ pub fn begin(options: Options) -> State
 {
     State {
         progress: calls::fresh(),
-        answer: Answer::Refused(Refusal::NoBudget),
-        options: options,
-    }
-}
-
-fn is_loaded(answer: Answer) -> bool
-    ensures { result ≡ is_loaded answer }
-{
-    match answer {
-        Answer::Loaded(_) => true,
-        Answer::Refused(_) => false,
+        answer: Err(Refusal::NoBudget),
+        options,
     }
 }
 
@@ -58,14 +49,15 @@ fn stay(state: State, reply: Reply) -> Stepped
     ensures { result ≡ unchanged state reply }
 {
     Stepped {
-        state: state,
+        state,
         copied: 0,
-        reply: reply,
+        reply,
     }
 }
 
-// What is replied after a portion: the answer, if nothing is left.
-fn reply_after(all: bool, answer: Answer) -> Reply
+// What is replied after a portion: the answer, if nothing is left. `all` is the portion's field: an enum in its place
+// would have no other use.
+fn reply_after(all: bool, answer: Result<KernelLoaderResult, Refusal>) -> Reply
     ensures { result ≡ reply_after all answer }
 {
     if all {
@@ -76,38 +68,40 @@ fn reply_after(all: bool, answer: Answer) -> Reply
 }
 
 // The next portion.
-fn go_on(guest: &mut [u8], state: State, image: &[u8], memory: Memory, budget: u64) -> Stepped
-    ensures { Loads (next_portion image.now memory state budget) guest.old result guest.new }
+fn go_on(guest: &mut [u8], state: State, image: &[u8], memory: &Memory, budget: u64) -> Stepped
+    ensures { Loads (next_portion image.now memory.now state budget) guest.old result guest.new }
 {
     let progress = state.progress;
-    let answer = state.answer;
-    let options = state.options;
-    let at = progress.at;
-    let done = progress.done;
-    let portion = copying::copy_some(guest, memory, image, options, at, done, budget);
+    let portion = copying::copy_some(
+        guest,
+        memory,
+        image,
+        state.options,
+        progress.at,
+        progress.done,
+        budget,
+    );
     Stepped {
         state: State {
             progress: calls::moved(progress, portion),
-            answer: answer,
-            options: options,
+            ..state
         },
         copied: portion.copied,
-        reply: reply_after(portion.all, answer),
+        reply: reply_after(portion.all, state.answer),
     }
 }
 
 // The first step: all is tested before anything is copied.
-fn first(guest: &mut [u8], options: Options, image: &[u8], memory: Memory, budget: u64) -> Stepped
-    ensures { Loads (first_step image.now memory options budget) guest.old result guest.new }
+fn first(guest: &mut [u8], options: Options, image: &[u8], memory: &Memory, budget: u64) -> Stepped
+    ensures { Loads (first_step image.now memory.now options budget) guest.old result guest.new }
 {
     let answer = formats::plan(memory, image, options);
-    let loads = is_loaded(answer);
     let started = State {
-        progress: calls::begin(loads, image.len() as u64, memory),
-        answer: answer,
-        options: options,
+        progress: calls::begin(answer.is_ok(), image.len() as u64, memory),
+        answer,
+        options,
     };
-    if !loads {
+    if !answer.is_ok() {
         return stay(started, Reply::Answers(answer));
     }
     go_on(guest, started, image, memory, budget)
@@ -117,27 +111,13 @@ fn first(guest: &mut [u8], options: Options, image: &[u8], memory: Memory, budge
 pub fn step(guest: &mut [u8], map: Map, image: &[u8], state: State, budget: u64) -> Stepped
     ensures { StepSays image.now state budget map guest.old result guest.new }
 {
-    let memory = Memory {
-        size: guest.len() as u64,
-        map: map,
-    };
-    let progress = state.progress;
-    let gate = calls::ask(progress, image.len() as u64, memory, budget);
-    match gate {
-        Gate::Shut(r) => stay(state, Reply::Refused(r)),
-        Gate::Open => {
-            let stage = progress.stage;
-            match stage {
-                Stage::Fresh => {
-                    let options = state.options;
-                    first(guest, options, image, memory, budget)
-                }
-                Stage::Copying => go_on(guest, state, image, memory, budget),
-                Stage::Done => {
-                    let answer = state.answer;
-                    stay(state, Reply::Answers(answer))
-                }
-            }
-        }
+    let memory = Memory::of(guest, map);
+    if let Err(refusal) = calls::ask(state.progress, image.len() as u64, &memory, budget) {
+        return stay(state, Reply::Refused(refusal));
+    }
+    match state.progress.stage {
+        Stage::Fresh => first(guest, state.options, image, &memory, budget),
+        Stage::Copying => go_on(guest, state, image, &memory, budget),
+        Stage::Done => stay(state, Reply::Answers(state.answer)),
     }
 }

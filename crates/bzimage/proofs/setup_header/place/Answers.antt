@@ -1,30 +1,23 @@
--- `setup_header::place`: after i turns the sum is the place of field i.
-use Prim.Native.Nat.{suc}
+-- `setup_header::place`: the sum is the place of the field at the index.
 use mathlib.Core.Path.{sym, ◌∙◌}
 use native.Mathlib.Omega.{arith}
-use native.Mathlib.Numerals.{add-one}
 use Rattle.bzimage.specs.SetupHeader.{sizes}
-use Rattle.bzimage.proofs.SetupHeaderLaws.{at_setup_sects, place_next, place_small, place_clipped}
+use Rattle.bzimage.proofs.SetupHeaderLaws.{at_setup_sects, place_step, step_small, place_end}
 use Rattle.bzimage.proofs.setup_header.place.Goals as goal
 
-pub loop-i-init : goal.loop-i-init
-loop-i-init c = (c.lesser-count.ensures, omega arith, sym at_setup_sects)
+pub loop-size-init : goal.loop-size-init
+loop-size-init c = sym at_setup_sects
 
 pub overflow_add-at : goal.overflow_add-at
 unfolding sizes
 overflow_add-at c =
-    let i = c.loop-i.i in
-    let next = place_next i in
-    let small = place_small (suc i) (omega arith) in
-    omega (arith, c.wide-at.ensures)
+    let small = step_small c.min.result c.loop-size.size-index c.loop-size-test.true c.loop-size.invariant c.from-at.ensures in
+    omega arith
 
-pub loop-i-preserved : goal.loop-i-preserved
+pub loop-size-preserved : goal.loop-size-preserved
 unfolding sizes
-loop-i-preserved c =
-    let i = c.loop-i.i in
-    (omega arith, omega arith, rw (add-one, place_next i) (omega (arith, c.wide-at.ensures)))
+loop-size-preserved c = place_step c.min.result c.loop-size.size-index c.loop-size-test.true c.loop-size.invariant c.from-at.ensures
 
 pub returns : goal.returns
-returns c =
-    let at-end = c.loop-i in
-    at-end.invariant.2 ∙ place_clipped _ (omega arith)
+unfolding sizes
+returns c = c.loop-size.invariant ∙ place_end c.args.field c.min.ensures (omega arith)

@@ -1,7 +1,6 @@
 -- `copying::copy_all`: what is left to write, from part i on, makes of memory what the whole makes of it as it was.
-use Prim.Native.Nat.{◌-◌, ◌≤◌}
+use Prim.Native.Nat.{◌-◌}
 use mathlib.Core.Path.{◌≡◌}
-use lib.ListN.{length}
 use Rattle.guest.specs.Parts.{parts_from}
 use Rattle.guest.specs.Stream.{pour}
 use Rattle.loads.specs.Layout.{part_in}
@@ -9,8 +8,4 @@ use Rattle.loads.proofs.copying.copy_all.Given as goal
 
 abbrev pub invariant-loop-i : goal.invariant-loop-i
 invariant-loop-i l =
-    (l.i ≤ l.n) × (length l.guest ≡ length l.initial.guest)
-    × (pour (parts_from (l.n - l.i) l.image (part_in l.image l.layout) l.i) l.guest ≡ pour (parts_from l.n l.image (part_in l.image l.layout) 0) l.initial.guest)
-
-abbrev pub decreases-loop-i : goal.decreases-loop-i
-decreases-loop-i l = l.n - l.i
+    (pour (parts_from (l.n - l.i) l.image (part_in l.image l.layout) l.i) l.guest ≡ pour (parts_from l.n l.image (part_in l.image l.layout) 0) l.initial.guest)

@@ -1,15 +1,10 @@
--- `steps::first`: a load that is refused stays, one that loads goes on from its first part.
-use Rattle.loads.proofs.StepsLaws.{first_stays, first_goes}
+-- `steps::first`: a load that is refused copies nothing.
+use mathlib.Core.Path.{sym, ◌∙◌}
+use Rattle.loads.proofs.StepsLaws.{first_stays}
 use Rattle.loads.proofs.steps.first.Goals as goal
 
-pub returns-then-not-loads : goal.returns-then-not-loads
-returns-then-not-loads c =
+pub returns-then-not-is_ok : goal.returns-then-not-is_ok
+returns-then-not-is_ok c =
     let args = c.args in
-    first_stays args.image.now args.memory args.budget args.guest.now args.options c.plan-answer.ensures c.is_loaded-loads.ensures
-    c.begin.ensures c.if-not-loads.true-raw c.stay.ensures
-
-pub returns : goal.returns
-returns c =
-    let args = c.args in
-    first_goes args.image.now args.memory args.budget args.guest.now args.options c.plan-answer.ensures c.is_loaded-loads.ensures
-    c.begin.ensures c.if-not-loads.false-raw c.go_on.ensures
+    first_stays args.image.now args.memory.now args.budget args.guest.now args.options c.plan-answer.ensures c.is_ok.ensures.value
+    c.begin.ensures (rw (c.is_ok.ensures.value ∙ sym c.is_ok-2.ensures.value ∙ c.if-not-is_ok.true)) c.stay.ensures
