@@ -1,4 +1,5 @@
 -- Laws of a boot by its plan: what is answered and written, however the kernel is entered.
+use Rattle.std.specs.Prelude.{Ok, Err, Result}
 use Prim.Native.Nat.{ℕ}
 use mathlib.Core.Path.{◌≡◌, sym, ◌∙◌, ap}
 use mathlib.Core.List.{List, []}
@@ -6,17 +7,13 @@ use Rattle.answers.specs.Tests.{Test, AllHold}
 use Rattle.answers.specs.declared.Refusal.{Refusal}
 use Rattle.guest.specs.Loading.{Plan, Loads}
 use Rattle.guest.specs.Stream.{Poke, pour}
-use Rattle.guest.specs.declared.Answer as kernel
-use Rattle.guest.specs.declared.Answer.TheVariants as loading
 use Rattle.guest.specs.declared.KernelLoaderResult.{KernelLoaderResult}
-use Rattle.boot.specs.Plan.{plan_by}
-use Rattle.boot.specs.declared.Answer.{Answer}
-use Rattle.boot.specs.declared.Answer.TheVariants.{Booted, Refused}
+use Rattle.boot.specs.Plan.{plan_by, Answer}
 use Rattle.boot.specs.declared.Booted as result
 use Rattle.boot.proofs.PlanLaws.{booted_by, refused_nothing, same_answer}
 
 module _ (row : KernelLoaderResult → List Test) (entry : KernelLoaderResult → ℕ)
-    (stream : KernelLoaderResult → List Poke) (a : kernel.Answer) where
+    (stream : KernelLoaderResult → List Poke) (a : Result KernelLoaderResult Refusal) where
   abbrev nothing : KernelLoaderResult → List Poke
   nothing k = []
 
@@ -29,8 +26,8 @@ module _ (row : KernelLoaderResult → List Test) (entry : KernelLoaderResult �
 
   -- a refusal leaves guest memory as it was
   pub refused_loads : (guest : List ℕ) {answer : Answer} {r : Refusal} → answer ≡ (plan_by a row entry nothing).answer
-      → answer ≡ Refused r
-      → Loads plan guest (Refused r) guest
+      → answer ≡ Err r
+      → Loads plan guest (Err r) guest
   unfolding pour
   refused_loads guest ea e =
       let is = sym e ∙ as_planned ea in
@@ -42,9 +39,9 @@ module _ (row : KernelLoaderResult → List Test) (entry : KernelLoaderResult �
 
   -- a boot writes the stream, of a kernel that is loaded and checks that hold
   pub booted_loads : (guest after : List ℕ) {answer : Answer} {b : result.Booted}
-      → answer ≡ (plan_by a row entry nothing).answer → answer ≡ Booted b
-      → ((k : KernelLoaderResult) → a ≡ loading.Loaded k → AllHold (row k) → after ≡ pour (stream k) guest)
-      → Loads plan guest (Booted b) after
+      → answer ≡ (plan_by a row entry nothing).answer → answer ≡ Ok b
+      → ((k : KernelLoaderResult) → a ≡ Ok k → AllHold (row k) → after ≡ pour (stream k) guest)
+      → Loads plan guest (Ok b) after
   booted_loads guest after ea e written =
       let by = booted_by row entry stream a (sym (as_planned ea) ∙ e) in
       record {

@@ -1,4 +1,5 @@
 -- More memory keeps a boot, and no hole is written: of each entry, of the contract of its `load`.
+use Rattle.std.specs.Prelude.{Ok, Option}
 use Prim.Native.Nat.{ℕ, ◌≤◌}
 use mathlib.Core.Path.{◌≡◌}
 use mathlib.Core.Bool.{true, false}
@@ -22,17 +23,14 @@ use Rattle.start_info.specs.Kinds.{module_widths, range_widths, block_size}
 use Rattle.start_info.specs.Parts.{list_size}
 use Rattle.start_info.specs.Writing as start
 use Rattle.start_info.specs.declared.Start.{Start}
-use Rattle.start_info.proofs.PartsLaws.{lies_grows}
+use Rattle.guest.proofs.RoomLaws.{room_for_grows}
 use Rattle.boot.specs.Checks.{limit_of, limit_tests, pieces_tests}
 use Rattle.boot.specs.Entering.{pvh_entry, pvh_tests}
-use Rattle.boot.specs.Plan.{extent}
+use Rattle.boot.specs.Plan.{extent, Answer}
 use Rattle.boot.specs.Pvh as pvh
 use Rattle.boot.specs.Tree as tree
 use Rattle.boot.specs.ZeroPage as zero_page
-use Rattle.boot.specs.declared.Answer.{Answer}
-use Rattle.boot.specs.declared.Answer.TheVariants.{Booted}
 use Rattle.boot.specs.declared.Booted as result
-use Rattle.boot.specs.declared.Limit.{Limit}
 use Rattle.boot.specs.declared.pvh.Pvh.{Pvh}
 use Rattle.boot.specs.declared.tree.Tree.{Tree}
 use Rattle.boot.specs.declared.zero_page.ZeroPage.{ZeroPage}
@@ -47,7 +45,7 @@ use Rattle.boot.proofs.ZeroPageThere as zero_page_there
 
 -- ---- by zero page
 
-module _ (image : List ℕ) (o : Options) (limit : Limit) (t : Text) (z : ZeroPage) (ramdisk rows : List ℕ) where
+module _ (image : List ℕ) (o : Options) (limit : Option ℕ) (t : Text) (z : ZeroPage) (ramdisk rows : List ℕ) where
   zero_page_roomy : (m : Memory) (k : KernelLoaderResult) → AllHold (zero_page.tests m image o limit t z (length ramdisk) rows k)
       → HaveRoom m (zero_page.blobs_of image o t z ramdisk rows k)
   zero_page_roomy m k h =
@@ -89,7 +87,7 @@ module _ (image : List ℕ) (o : Options) (limit : Limit) (t : Text) (z : ZeroPa
       no_hole_written image o (λ m. zero_page.tests m image o limit t z (length ramdisk) rows) (zero_page.entry o z) (zero_page.blobs_of image o t z ramdisk rows) zero_page_roomy
 
   pub zero_page_grows : (map : Map) (before : List ℕ) {r : Answer} {after : List ℕ} → zero_page.Boots image o limit t z ramdisk rows map before r after
-      → {b : result.Booted} → r ≡ Booted b → (more : List ℕ) (map' : Map) → length (before ++ more) ≤ longest → good_map (length before) map ≡ true
+      → {b : result.Booted} → r ≡ Ok b → (more : List ℕ) (map' : Map) → length (before ++ more) ≤ longest → good_map (length before) map ≡ true
       → good_map (length (before ++ more)) map' ≡ true → Grows (memory_of before map) (memory_of (before ++ more) map') → {r' : Answer} {after' : List ℕ}
       → zero_page.Boots image o limit t z ramdisk rows map' (before ++ more) r' after' → (r' ≡ r) × (after' ≡ after ++ more)
   zero_page_grows =
@@ -118,10 +116,10 @@ start_grows m m' grows own s modules ranges h =
                   (
                     q.1.0,
                     (
-                      lies_grows m m' s.block.0 block_size grows q.1.1.0,
+                      room_for_grows m m' s.block.0 block_size grows q.1.1.0,
                       (
-                        lies_grows m m' s.modules.0 (list_size module_widths modules) grows q.1.1.1.0,
-                        (lies_grows m m' s.ranges.0 (list_size range_widths ranges) grows q.1.1.1.1.0, q.1.1.1.1.1),
+                        room_for_grows m m' s.modules.0 (list_size module_widths modules) grows q.1.1.1.0,
+                        (room_for_grows m m' s.ranges.0 (list_size range_widths ranges) grows q.1.1.1.1.0, q.1.1.1.1.1),
                       ),
                     ),
                   ),
@@ -133,7 +131,7 @@ start_grows m m' grows own s modules ranges h =
       ),
     )
 
-module _ (image : List ℕ) (o : Options) (limit : Limit) (t : Text) (p : Pvh) (ramdisk rows : List ℕ) where
+module _ (image : List ℕ) (o : Options) (limit : Option ℕ) (t : Text) (p : Pvh) (ramdisk rows : List ℕ) where
   abbrev n : ℕ
   n = length ramdisk
 
@@ -166,7 +164,7 @@ module _ (image : List ℕ) (o : Options) (limit : Limit) (t : Text) (p : Pvh) (
       no_hole_written image o (λ m. pvh.tests m image o limit t p n rows) pvh.entry (λ (k : KernelLoaderResult). pvh.blobs_of t p ramdisk rows) pvh_roomy
 
   pub pvh_grows : (map : Map) (before : List ℕ) {r : Answer} {after : List ℕ} → pvh.Boots image o limit t p ramdisk rows map before r after
-      → {b : result.Booted} → r ≡ Booted b → (more : List ℕ) (map' : Map) → length (before ++ more) ≤ longest → good_map (length before) map ≡ true
+      → {b : result.Booted} → r ≡ Ok b → (more : List ℕ) (map' : Map) → length (before ++ more) ≤ longest → good_map (length before) map ≡ true
       → good_map (length (before ++ more)) map' ≡ true → Grows (memory_of before map) (memory_of (before ++ more) map') → {r' : Answer} {after' : List ℕ}
       → pvh.Boots image o limit t p ramdisk rows map' (before ++ more) r' after' → (r' ≡ r) × (after' ≡ after ++ more)
   pvh_grows =
@@ -174,7 +172,7 @@ module _ (image : List ℕ) (o : Options) (limit : Limit) (t : Text) (p : Pvh) (
 
 -- ---- with a device tree
 
-module _ (image : List ℕ) (o : Options) (limit : Limit) (text : List ℕ) (to : Tree) (ramdisk blob : List ℕ) where
+module _ (image : List ℕ) (o : Options) (limit : Option ℕ) (text : List ℕ) (to : Tree) (ramdisk blob : List ℕ) where
   abbrev size : ℕ
   size = length ramdisk
 
@@ -203,7 +201,7 @@ module _ (image : List ℕ) (o : Options) (limit : Limit) (text : List ℕ) (to 
       no_hole_written image o (λ m k. tree.tests m image o limit text to size blob) tree.entry (λ (k : KernelLoaderResult). tree.blobs_of to ramdisk blob) tree_roomy
 
   pub tree_grows : (map : Map) (before : List ℕ) {r : Answer} {after : List ℕ} → tree.Boots image o limit text to ramdisk blob map before r after
-      → {b : result.Booted} → r ≡ Booted b → (more : List ℕ) (map' : Map) → length (before ++ more) ≤ longest → good_map (length before) map ≡ true
+      → {b : result.Booted} → r ≡ Ok b → (more : List ℕ) (map' : Map) → length (before ++ more) ≤ longest → good_map (length before) map ≡ true
       → good_map (length (before ++ more)) map' ≡ true → Grows (memory_of before map) (memory_of (before ++ more) map') → {r' : Answer} {after' : List ℕ}
       → tree.Boots image o limit text to ramdisk blob map' (before ++ more) r' after' → (r' ≡ r) × (after' ≡ after ++ more)
   tree_grows =

@@ -1,4 +1,5 @@
 -- Laws of the memory that a kernel uses.
+use Rattle.std.specs.Prelude.{Ok, is_ok}
 use Prim.Native.Nat.{ℕ, zero, suc, ◌+◌, ◌≤◌, ◌<◌}
 use mathlib.Core.Path.{◌≡◌, ◌∙◌, refl, ap}
 use mathlib.Core.Bool.{true}
@@ -10,12 +11,10 @@ use Rattle.answers.proofs.BoolLaws.{both_held}
 use Rattle.fields.specs.Ranges.{Among}
 use Rattle.fields.proofs.ApartLaws.{apart_none}
 use Rattle.fields.proofs.EveryLaws.{every_each}
-use Rattle.guest.specs.Answers.{is_loaded}
+use Rattle.guest.specs.Answers.{Answer}
 use Rattle.guest.specs.Parts.{part_stream, parts_from}
 use Rattle.guest.specs.Room as room
 use Rattle.guest.specs.Stream.{pour, bytes_at}
-use Rattle.guest.specs.declared.Answer.{Answer}
-use Rattle.guest.specs.declared.Answer.TheVariants.{Loaded}
 use Rattle.guest.specs.declared.Extent.{Extent}
 use Rattle.guest.specs.declared.KernelLoaderResult.{KernelLoaderResult}
 use Rattle.guest.specs.declared.Map.{Map}
@@ -60,7 +59,7 @@ kernel_outside image o a out =
 
 -- a load that is accepted writes all of the kernel
 pub kernel_written : (image : List ℕ) (o : Options) (map : Map) (before : List ℕ) {r : Answer} {after : List ℕ} {k : KernelLoaderResult}
-    → LoadSays image o map before r after → answer_of image (room.memory_of before map) o ≡ Loaded k → after ≡ pour (kernel_stream image o) before
-unfolding is_loaded pick
+    → LoadSays image o map before r after → answer_of image (room.memory_of before map) o ≡ Ok k → after ≡ pour (kernel_stream image o) before
+unfolding pick
 kernel_written image o map before says e =
-    says.memory ∙ ap (λ (a : Answer). pour (pick (is_loaded a) (kernel_stream image o) []) before) e
+    says.memory ∙ ap (λ (a : Answer). pour (pick (is_ok a) (kernel_stream image o) []) before) e

@@ -1,6 +1,7 @@
 -- "More memory keeps a boot whose addresses are given": within the size limit and while the new map is a valid one, memory that
 -- grows gives an accepted boot the same answer and old guest bytes, the added memory untouched. And no hole is written, whether a
 -- boot is accepted or refused. With placed addresses an added range may give another place, and then it is another boot.
+use Rattle.std.specs.Prelude.{Ok}
 use Prim.Native.Nat.{ℕ, ◌≤◌}
 use mathlib.Core.Path.{◌≡◌, sym, ◌∙◌}
 use mathlib.Core.Bool.{true, false}
@@ -24,9 +25,7 @@ use Rattle.guest.proofs.RoomLaws.{allowed_longer}
 use Rattle.loads.specs.Formats as formats
 use Rattle.loads.specs.declared.Options.{Options}
 use Rattle.boot.specs.Blobs.{Blob}
-use Rattle.boot.specs.Plan.{boot_stream, plan_by}
-use Rattle.boot.specs.declared.Answer.{Answer}
-use Rattle.boot.specs.declared.Answer.TheVariants.{Booted}
+use Rattle.boot.specs.Plan.{boot_stream, plan_by, Answer}
 use Rattle.boot.specs.declared.Booted as result
 use Rattle.boot.proofs.AllThere.{HaveRoom}
 use Rattle.boot.proofs.GrowLaws.{boot_inside, plan_kept}
@@ -52,7 +51,7 @@ module _ (image : List ℕ) (o : Options) (row : Memory → KernelLoaderResult �
       hole_untouched (plan_in (memory_of before map)) before after boots map (plan_inside (memory_of before map))
 
   module _ (grow : (m m' : Memory) → Grows m m' → AllHold (memory_tests m') → (k : KernelLoaderResult) → AllHold (row m k) → AllHold (row m' k)) (map : Map)
-      (before : List ℕ) {r : Answer} {after : List ℕ} (boots : Loads (plan_in (memory_of before map)) before r after) {b : result.Booted} (booted : r ≡ Booted b)
+      (before : List ℕ) {r : Answer} {after : List ℕ} (boots : Loads (plan_in (memory_of before map)) before r after) {b : result.Booted} (booted : r ≡ Ok b)
       (more : List ℕ) (map' : Map) (short : length (before ++ more) ≤ longest) (good : good_map (length before) map ≡ true)
       (good' : good_map (length (before ++ more)) map' ≡ true) (grows : Grows (memory_of before map) (memory_of (before ++ more) map')) where
     pub boot_kept : {r' : Answer} {after' : List ℕ} → Loads (plan_in (memory_of (before ++ more) map')) (before ++ more) r' after' → (r' ≡ r) × (after' ≡ after ++ more)

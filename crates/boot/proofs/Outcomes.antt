@@ -32,13 +32,13 @@ check_line_one κs a z z' ws ws' p q = (meet p.checked q.checked, refl)
 pub put_one : OneOutcome 2 put_kinds.ps put_kinds.r put_reads.Post
 put_one κs a z z' ws ws' p q = (meet p.answer q.answer, first (meet p.memory q.memory))
 
-pub pvh_plan_one : OneOutcome 4 pvh_plan_kinds.ps pvh_plan_kinds.r pvh_plan_reads.Post
+pub pvh_plan_one : OneOutcome 5 pvh_plan_kinds.ps pvh_plan_kinds.r pvh_plan_reads.Post
 pvh_plan_one κs a z z' ws ws' p q = (meet p q, refl)
 
 pub pvh_load_one : OneOutcome 6 pvh_load_kinds.ps pvh_load_kinds.r pvh_load_reads.Post
 pvh_load_one κs a z z' ws ws' p q = (meet p.answer q.answer, first (meet p.memory q.memory))
 
-pub tree_plan_one : OneOutcome 3 tree_plan_kinds.ps tree_plan_kinds.r tree_plan_reads.Post
+pub tree_plan_one : OneOutcome 4 tree_plan_kinds.ps tree_plan_kinds.r tree_plan_reads.Post
 tree_plan_one κs a z z' ws ws' p q = (meet p q, refl)
 
 pub tree_load_one : OneOutcome 5 tree_load_kinds.ps tree_load_kinds.r tree_load_reads.Post
@@ -47,7 +47,7 @@ tree_load_one κs a z z' ws ws' p q = (meet p.answer q.answer, first (meet p.mem
 pub ramdisk_end_one : OneOutcome 1 ramdisk_end_kinds.ps ramdisk_end_kinds.r ramdisk_end_reads.Post
 ramdisk_end_one κs a z z' ws ws' p q = (meet p q, refl)
 
-pub zero_page_plan_one : OneOutcome 4 zero_page_plan_kinds.ps zero_page_plan_kinds.r zero_page_plan_reads.Post
+pub zero_page_plan_one : OneOutcome 5 zero_page_plan_kinds.ps zero_page_plan_kinds.r zero_page_plan_reads.Post
 zero_page_plan_one κs a z z' ws ws' p q = (meet p q, refl)
 
 pub zero_page_load_one : OneOutcome 6 zero_page_load_kinds.ps zero_page_load_kinds.r zero_page_load_reads.Post

@@ -1,5 +1,6 @@
 -- "After an accepted boot by PVH each piece is there; after a refused one nothing has changed": of the contract of
 -- `pvh::load`.
+use Rattle.std.specs.Prelude.{Ok, Err, Option}
 use Prim.Native.Nat.{ℕ}
 use mathlib.Core.Path.{◌≡◌, sym, ◌∙◌, ap}
 use mathlib.Core.List.{List, ◌++◌}
@@ -23,13 +24,10 @@ use Rattle.start_info.specs.Kinds.{module_widths, range_widths}
 use Rattle.start_info.specs.Writing as start
 use Rattle.start_info.proofs.Held as held
 use Rattle.boot.specs.Checks.{pieces_tests}
-use Rattle.boot.specs.Plan.{extent, boot_stream}
+use Rattle.boot.specs.Plan.{extent, boot_stream, Answer}
 use Rattle.boot.specs.Pvh.{modules_of, start_of, block_bytes, tests, blobs_of, entry, plan_of, Boots}
 use Rattle.boot.specs.There.{AllThere}
-use Rattle.boot.specs.declared.Answer.{Answer}
-use Rattle.boot.specs.declared.Answer.TheVariants.{Booted, Refused}
 use Rattle.boot.specs.declared.Booted as result
-use Rattle.boot.specs.declared.Limit.{Limit}
 use Rattle.boot.specs.declared.pvh.Pvh.{Pvh}
 use Rattle.boot.proofs.PiecesThere.{three_there}
 use Rattle.boot.proofs.PlanLaws.{booted_by, refused_nothing}
@@ -37,7 +35,7 @@ use Rattle.boot.proofs.PvhLaws.{line_hold, block_hold, ranges_hold}
 
 -- ---- the pieces have the sizes that were checked
 
-module _ (m : Memory) (image : List ℕ) (o : Options) (limit : Limit) (t : Text) (p : Pvh) (n : ℕ) (rows : List ℕ)
+module _ (m : Memory) (image : List ℕ) (o : Options) (limit : Option ℕ) (t : Text) (p : Pvh) (n : ℕ) (rows : List ℕ)
     (k : KernelLoaderResult)
     (hold : AllHold (tests m image o limit t p n rows k)) where
   line_size : length (line.line_bytes t) ≡ counted t
@@ -65,7 +63,7 @@ module _ (m : Memory) (image : List ℕ) (o : Options) (limit : Limit) (t : Text
 
 -- ---- of the contract
 
-module _ (image : List ℕ) (o : Options) (limit : Limit) (t : Text) (p : Pvh) (ramdisk rows : List ℕ) (map : Map)
+module _ (image : List ℕ) (o : Options) (limit : Option ℕ) (t : Text) (p : Pvh) (ramdisk rows : List ℕ) (map : Map)
     (before : List ℕ) {r : Answer}
     {after : List ℕ} (boots : Boots image o limit t p ramdisk rows map before r after) where
   abbrev m : Memory
@@ -77,12 +75,12 @@ module _ (image : List ℕ) (o : Options) (limit : Limit) (t : Text) (p : Pvh) (
   abbrev whole : KernelLoaderResult → List Poke
   whole k = boot_stream image o (blobs_of t p ramdisk rows)
 
-  pub refused_untouched : {refusal : Refusal} → r ≡ Refused refusal → after ≡ before
+  pub refused_untouched : {refusal : Refusal} → r ≡ Err refusal → after ≡ before
   refused_untouched e =
       nothing_written (plan_of m image o limit t p ramdisk rows) before after boots
       (refused_nothing row entry whole (formats.answer_of image m o) (sym boots.answer ∙ e))
 
-  pub booted_there : {b : result.Booted} → r ≡ Booted b → AllThere image o (blobs_of t p ramdisk rows) before after
+  pub booted_there : {b : result.Booted} → r ≡ Ok b → AllThere image o (blobs_of t p ramdisk rows) before after
   booted_there e =
       let by = booted_by row entry whole (formats.answer_of image m o) (sym boots.answer ∙ e) in
       three_there m image o 4 rows (p.line.0, line.line_bytes t) (p.ramdisk.0, ramdisk)

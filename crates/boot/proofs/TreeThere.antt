@@ -1,5 +1,6 @@
 -- "After an accepted boot with a device tree each piece is there, and so is the line, in the tree; after a refused one
 -- nothing has changed": of the contract of `tree::load`.
+use Rattle.std.specs.Prelude.{Ok, Err, Option}
 use Prim.Native.Nat.{ℕ, zero, suc, ◌+◌, ◌≤◌, ◌<◌}
 use mathlib.Core.Path.{◌≡◌, sym, ◌∙◌, refl, ap}
 use mathlib.Core.Bool.{Bool, true, false, ◌&&◌}
@@ -33,13 +34,10 @@ use Rattle.loads.specs.Formats as formats
 use Rattle.loads.specs.declared.Options.{Options}
 use Rattle.boot.specs.Blobs.{first, next, Holds}
 use Rattle.boot.specs.Checks.{limit_of, limit_tests, pieces_tests}
-use Rattle.boot.specs.Plan.{extent, boot_stream}
+use Rattle.boot.specs.Plan.{extent, boot_stream, Answer}
 use Rattle.boot.specs.There.{AllThere}
 use Rattle.boot.specs.Tree.{line_in, own_tests, tests, blobs_of, entry, plan_of, Boots}
-use Rattle.boot.specs.declared.Answer.{Answer}
-use Rattle.boot.specs.declared.Answer.TheVariants.{Booted, Refused}
 use Rattle.boot.specs.declared.Booted as result
-use Rattle.boot.specs.declared.Limit.{Limit}
 use Rattle.boot.specs.declared.tree.Tree.{Tree}
 use Rattle.boot.proofs.PiecesThere.{two_there}
 use Rattle.boot.proofs.PlanLaws.{BootedBy, booted_by, refused_nothing}
@@ -99,7 +97,7 @@ module _ (tree : List ℕ) (at : ℕ) (text : List ℕ) (there : line_in tree at
 
 -- ---- the theorem
 
-module _ (image : List ℕ) (o : Options) (limit : Limit) (text : List ℕ) (to : Tree) (ramdisk tree : List ℕ) (map : Map)
+module _ (image : List ℕ) (o : Options) (limit : Option ℕ) (text : List ℕ) (to : Tree) (ramdisk tree : List ℕ) (map : Map)
     (before : List ℕ) {r : Answer}
     {after : List ℕ} (boots : Boots image o limit text to ramdisk tree map before r after) where
   abbrev m : Memory
@@ -121,12 +119,12 @@ module _ (image : List ℕ) (o : Options) (limit : Limit) (text : List ℕ) (to 
   pieces_row = pieces_tests m image o 0 [] (extent 0 0) (extent to.ramdisk.0 (length ramdisk))
       (extent to.tree.0 (length tree))
 
-  pub refused_untouched : {refusal : Refusal} → r ≡ Refused refusal → after ≡ before
+  pub refused_untouched : {refusal : Refusal} → r ≡ Err refusal → after ≡ before
   refused_untouched e =
       nothing_written (plan_of m image o limit text to ramdisk tree) before after boots
       (refused_nothing row entry whole (formats.answer_of image m o) (sym boots.answer ∙ e))
 
-  module _ {b : result.Booted} (e : r ≡ Booted b) where
+  module _ {b : result.Booted} (e : r ≡ Ok b) where
     by : BootedBy row entry whole (formats.answer_of image m o) b (plan_of m image o limit text to ramdisk tree)
     by = booted_by row entry whole (formats.answer_of image m o) (sym boots.answer ∙ e)
 

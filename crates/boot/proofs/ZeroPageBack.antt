@@ -1,5 +1,6 @@
 -- "The page read back equal": after an accepted boot by zero page, the page in guest memory has each field that was given, and a
 -- reader of it gives the rows, the addresses and the setup header back.
+use Rattle.std.specs.Prelude.{Ok, Option, is_ok, Result}
 use Prim.Native.Nat.{ℕ, ◌-◌, ◌≤◌, ◌<◌}
 use mathlib.Core.Path.{◌≡◌, sym, ◌∙◌, ap, refl}
 use mathlib.Core.List.{List}
@@ -8,17 +9,16 @@ use lib.ListN.{length, get_or, take, drop, length-take, length-drop}
 use lib.Seq.{sets, ext_get_or, get_or-take, get_or-drop}
 use native.Mathlib.Decide.{dec_le}
 use Rattle.answers.specs.Pick.{pick}
-use Rattle.answers.specs.Tests.{is_open}
-use Rattle.answers.specs.declared.Gate.{Gate}
-use Rattle.answers.specs.declared.Gate.TheVariants.{Open}
+use Rattle.answers.specs.Tests.{Check, pass}
 use Rattle.boot_page.specs.Building as page
 use Rattle.boot_page.specs.Map.{count_of}
 use Rattle.boot_page.specs.Page.{Fit32, IsPage, SetHeader}
 use Rattle.boot_page.specs.Places.{page_size}
 use Rattle.boot_page.specs.Reading.{Reads}
 use Rattle.boot_page.specs.declared.Addresses.{Addresses}
-use Rattle.boot_page.specs.declared.Answer.TheVariants.{Read}
-use Rattle.boot_page.specs.declared.Outcome.{Outcome}
+use Rattle.answers.specs.declared.Refusal.{Refusal}
+use Rattle.boot_page.specs.declared.Page.{Page}
+use Rattle.bzimage.specs.Header as bzimage
 use Rattle.boot_page.proofs.ReadBack.{built_page, answer_back, setup_header_back, rows_back_read}
 use Rattle.boot_page.proofs.PartsLaws.{page_length}
 use Rattle.cmdline.specs.Text.{Text}
@@ -28,12 +28,9 @@ use Rattle.guest.specs.declared.Map.{Map}
 use Rattle.loads.specs.Formats as kernel
 use Rattle.loads.specs.declared.Options.{Options}
 use Rattle.boot.specs.Blobs.{first, next, Holds}
-use Rattle.boot.specs.Plan.{boot_stream}
+use Rattle.boot.specs.Plan.{boot_stream, Answer}
 use Rattle.boot.specs.ZeroPage.{setup_by, addresses_of, tests, blobs_of, entry, Boots}
-use Rattle.boot.specs.declared.Answer.{Answer}
-use Rattle.boot.specs.declared.Answer.TheVariants.{Booted}
 use Rattle.boot.specs.declared.Booted as result
-use Rattle.boot.specs.declared.Limit.{Limit}
 use Rattle.boot.specs.declared.zero_page.ZeroPage.{ZeroPage}
 use Rattle.guest.specs.declared.KernelLoaderResult.{KernelLoaderResult}
 use Rattle.boot.proofs.PlanLaws.{booted_by}
@@ -58,8 +55,8 @@ held_bytes a vs guest holds = ext_get_or 0 (take (length vs) (drop a guest)) vs 
     at : (i : ℕ) → i < length vs → get_or (take (length vs) (drop a guest)) i 0 ≡ get_or vs i 0
     at i lt = get_or-take (length vs) (drop a guest) i 0 lt ∙ get_or-drop a guest i 0 ∙ holds.byte i lt
 
-module _ (image : List ℕ) (o : Options) (limit : Limit) (t : Text) (z : ZeroPage) (ramdisk rows : List ℕ) (map : Map) (before : List ℕ) {r : Answer}
-    {after : List ℕ} (boots : Boots image o limit t z ramdisk rows map before r after) {b : result.Booted} (booted : r ≡ Booted b)
+module _ (image : List ℕ) (o : Options) (limit : Option ℕ) (t : Text) (z : ZeroPage) (ramdisk rows : List ℕ) (map : Map) (before : List ℕ) {r : Answer}
+    {after : List ℕ} (boots : Boots image o limit t z ramdisk rows map before r after) {b : result.Booted} (booted : r ≡ Ok b)
     (fit : Fit32 (addresses_of z (length ramdisk))) where
   abbrev header : List ℕ
   header = setup_by o.format image b.kernel.kernel_load.0
@@ -78,7 +75,7 @@ module _ (image : List ℕ) (o : Options) (limit : Limit) (t : Text) (z : ZeroPa
       ∙ held_bytes z.page (page.page_of header named rows) after
       ((booted_there image o limit t z ramdisk rows map before boots booted).pieces (z.page, page.page_of header named rows) (next (next first)))
 
-  checks : page.gate_of page_size rows ≡ Open
+  checks : page.gate_of page_size rows ≡ pass
   checks =
       let m = memory_of before map in
       let by = booted_by (tests m image o limit t z (length ramdisk) rows) (entry o z)
@@ -86,25 +83,25 @@ module _ (image : List ℕ) (o : Options) (limit : Limit) (t : Text) (z : ZeroPa
       page_open m image o limit t z (length ramdisk) rows by.k by.hold
 
   -- so it is what building a page over it would leave
-  builds : page.Builds header named rows page_in Open page_in
-  unfolding is_open pick
+  builds : page.Builds header named rows page_in pass page_in
+  unfolding pick
   builds =
       let len : length page_in ≡ page_size = ap length as_built ∙ page_length header named rows in
-      let opens : page.gate_of (length page_in) rows ≡ Open = ap (λ (n : ℕ). page.gate_of n rows) len ∙ checks in
+      let opens : page.gate_of (length page_in) rows ≡ pass = ap (λ (n : ℕ). page.gate_of n rows) len ∙ checks in
       record {
         answer = sym opens;
-        page = as_built ∙ sym (ap (λ (g : Gate). pick (is_open g) (page.page_of header named rows) page_in) opens);
+        page = as_built ∙ sym (ap (λ (g : Check). pick (is_ok g) (page.page_of header named rows) page_in) opens);
       }
 
   pub page_is : IsPage header named rows page_in
   page_is = built_page header named rows page_in builds refl fit
 
   -- and a reader of it gives everything back
-  module _ (list : List ℕ) {said : Outcome} {List-left : List ℕ} (reads : Reads page_in list said List-left) where
-    pub page_read : said.answer ≡ Read (record { rows = count_of rows; addresses = named })
+  module _ (list : List ℕ) {said : Result Page Refusal} {List-left : List ℕ} (reads : Reads page_in list said List-left) where
+    pub page_read : said ≡ Ok (record { rows = count_of rows; addresses = named; setup_header = bzimage.header_read page_in })
     page_read = answer_back header named rows page_in builds refl fit list reads
 
-    pub header_read : SetHeader header named said.setup_header
+    pub header_read : {found : Page} → said ≡ Ok found → SetHeader header named found.setup_header
     header_read = setup_header_back header named rows page_in builds refl fit list reads
 
     pub rows_read : length rows ≤ length list → List-left ≡ sets list 0 rows

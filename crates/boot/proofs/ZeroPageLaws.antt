@@ -1,4 +1,5 @@
 -- Laws of a boot by zero page, as code works it out.
+use Rattle.std.specs.Prelude.{Ok, Err, Option, Result, is_ok}
 use Prim.Native.Nat.{ℕ, zero, suc, ◌+◌, ◌-◌, ◌≤◌}
 use mathlib.Core.Path.{◌≡◌, sym, ◌∙◌, refl, ap}
 use mathlib.Core.Bool.{true}
@@ -9,9 +10,7 @@ use borrow.Rule.Slice.PartMut.{mid_of, put_mid, Post-is, mid_len}
 use lib.ListN.{length, take, drop}
 use lib.Seq.{sets, take_all}
 use Rattle.answers.specs.Pick.{pick}
-use Rattle.answers.specs.Tests.{Test, asked_all, is_open, AllHold}
-use Rattle.answers.specs.declared.Gate.{Gate}
-use Rattle.answers.specs.declared.Gate.TheVariants.{Open}
+use Rattle.answers.specs.Tests.{Test, asked_all, AllHold, Check, pass}
 use Rattle.answers.specs.declared.Refusal.{Refusal}
 use Rattle.answers.proofs.TestsLaws.{all_open}
 use Rattle.boot_page.specs.Building as page
@@ -23,9 +22,6 @@ use Rattle.fields.proofs.CopyingLaws.{sets_behind}
 use Rattle.guest.specs.Loading.{Plan}
 use Rattle.guest.specs.Room.{room, memory_of}
 use Rattle.guest.specs.Stream.{Poke, pour, stream_at, bytes_at}
-use Rattle.guest.specs.declared.Answer as kernel_answer
-use Rattle.guest.specs.declared.Answer.TheVariants as loading
-use Rattle.guest.specs.declared.Extent.{Extent}
 use Rattle.guest.specs.declared.KernelLoaderResult.{KernelLoaderResult}
 use Rattle.guest.specs.declared.Map.{Map}
 use Rattle.guest.specs.declared.Memory.{Memory}
@@ -33,71 +29,96 @@ use Rattle.guest.proofs.LoadingLaws.{all_planned}
 use Rattle.guest.proofs.RoomLaws.{room_size, room_for_some}
 use Rattle.guest.proofs.StreamLaws.{length_pour, pour_append, pour_at}
 use Rattle.loader.specs.Lines as line
-use Rattle.loader.specs.declared.Answer as line_answer
-use Rattle.loader.specs.declared.Answer.TheVariants as line_loading
 use Rattle.loads.specs.Formats as kernel
 use Rattle.loads.specs.declared.Options.{Options}
 use Rattle.boot.specs.Blobs.{stream_of}
 use Rattle.boot.specs.Checks.{limit_of, limit_tests, pieces_tests}
-use Rattle.boot.specs.Entering.{top32, entry_of, zero_page_tests}
+use Rattle.boot.specs.Entering.{top32, zero_page_tests}
 use Rattle.boot.specs.Kernel.{kernel_stream}
-use Rattle.boot.specs.Plan.{extent, then_gate, answer_by, boot_stream, plan_by}
+use Rattle.boot.specs.Plan.{extent, boot_stream, plan_by, Answer}
 use Rattle.boot.specs.ZeroPage.{setup_by, addresses_of, page_bytes, ramdisk_tests, tests, blobs_of, entry, answer_of, Boots}
-use Rattle.boot.specs.declared.Answer.{Answer}
-use Rattle.boot.specs.declared.Answer.TheVariants.{Booted, Refused}
 use Rattle.boot.specs.declared.Booted as result
-use Rattle.boot.specs.declared.Limit.{Limit}
 use Rattle.boot.specs.declared.zero_page.ZeroPage.{ZeroPage}
 use Rattle.boot.proofs.BootsLaws.{refused_loads, booted_loads}
-use Rattle.boot.proofs.GateLaws.{then_asked, joined, sized}
+use Rattle.boot.proofs.GateLaws.{goes, stops}
+use Rattle.boot.proofs.LineLaws.{line_passes, line_refuses}
 use Rattle.boot.proofs.KernelLaws.{kernel_written}
-use Rattle.boot.proofs.PlanLaws.{BootedBy, booted_by, answer_kernel, answer_checked}
+use Rattle.boot.proofs.PlanLaws.{BootedBy, booted_by}
 
 -- a page that is built, if its checks hold
-pub built : {header rows before after : List ℕ} {addresses : Addresses} {r : Gate} → page.Builds header addresses rows before r after
-    → page.gate_of (length before) rows ≡ Open → after ≡ page.page_of header addresses rows
-unfolding is_open pick
+pub built : {header rows before after : List ℕ} {addresses : Addresses} {r : Check} → page.Builds header addresses rows before r after
+    → page.gate_of (length before) rows ≡ pass → after ≡ page.page_of header addresses rows
+unfolding pick
 built {header} {rows} {before} {addresses = addresses} builds e =
-    builds.page ∙ ap (λ (g : Gate). pick (is_open g) (page.page_of header addresses rows) before) e
+    builds.page ∙ ap (λ (g : Check). pick (is_ok g) (page.page_of header addresses rows) before) e
 
--- ---- the answer
+-- ---- the checks, row after row
 
-pub refused_answer : (m : Memory) (image : List ℕ) (o : Options) (limit : Limit) (t : Text) (z : ZeroPage) (n : ℕ) (rows : List ℕ) {x : kernel_answer.Answer}
-    {r : Refusal} → x ≡ kernel.answer_of image m o → x ≡ loading.Refused r → Refused r ≡ answer_of m image o limit t z n rows
-refused_answer m image o limit t z n rows = answer_kernel (tests m image o limit t z n rows) (entry o z) (λ _. [])
+module _ (m : Memory) (image : List ℕ) (o : Options) (limit : Option ℕ) (boot init : List ℕ) (z : ZeroPage) (n : ℕ) (rows : List ℕ) (k : KernelLoaderResult) where
+  abbrev t : Text
+  t = bare boot init
 
-pub checked_answer : (m : Memory) (image : List ℕ) (o : Options) (limit : Limit) (boot init : List ℕ) (z : ZeroPage) (n : ℕ) (rows : List ℕ)
-    {x : kernel_answer.Answer} {k : KernelLoaderResult} {g1 own2 g2 own3 g3 g4 g5 g6 : Gate} {size at : ℕ} {e1 e2 e3 : Extent} {r : Answer}
-    → x ≡ kernel.answer_of image m o → x ≡ loading.Loaded k
-    → g1 ≡ asked_all Open (zero_page_tests image o.format z.wide k.kernel_load.0)
-    → own2 ≡ asked_all Open (line.tests (bare boot init) m z.line) → g2 ≡ then_gate g1 own2
-    → own3 ≡ page.gate_of page_size rows → g3 ≡ then_gate g2 own3
-    → g4 ≡ asked_all g3 (ramdisk_tests image o.format z.ramdisk n)
-    → g5 ≡ asked_all g4 (limit_tests (limit_of image o limit) (size_of (length boot) (length init)))
-    → (g5 ≡ Open → size ≡ size_of (length boot) (length init))
-    → e1 ≡ extent z.line size → e2 ≡ extent z.ramdisk n → e3 ≡ extent z.page page_size
-    → g6 ≡ asked_all g5 (pieces_tests m image o 3 rows e1 e2 e3)
-    → at ≡ entry_of o.format z.wide k.kernel_load.0 → r ≡ answer_by g6 k at
-    → r ≡ answer_of m image o limit (bare boot init) z n rows
-checked_answer m image o limit boot init z n rows {k = k} {g1} {own2} {g2} {own3} {g3} {g4} {g5} {g6} {size} {at} {e1} {e2} {e3} ex ek h1 h2 h2' h3 h3' h4 h5 hs he1 he2 he3 h6 ha hr =
-    let t = bare boot init in
-    let r1 = zero_page_tests image o.format z.wide k.kernel_load.0 in
-    let r2 = line.tests t m z.line in
-    let r3 = page.tests page_size rows in
-    let r4 = ramdisk_tests image o.format z.ramdisk n in
-    let r5 = limit_tests (limit_of image o limit) (size_of (length boot) (length init)) in
-    let r6 : ℕ → List Test = λ s. pieces_tests m image o 3 rows (extent z.line s) (extent z.ramdisk n) (extent z.page page_size) in
-    let as_given : g6 ≡ asked_all g5 (r6 size) =
-    h6 ∙ ap (λ (e : Extent). asked_all g5 (pieces_tests m image o 3 rows e e2 e3)) he1
-    ∙ ap (λ (e : Extent). asked_all g5 (pieces_tests m image o 3 rows (extent z.line size) e e3)) he2
-    ∙ ap (λ (e : Extent). asked_all g5 (pieces_tests m image o 3 rows (extent z.line size) (extent z.ramdisk n) e)) he3 in
-    let last : g6 ≡ asked_all g5 (r6 (size_of (length boot) (length init))) = as_given ∙ sized g5 r6 hs in
-    let all : g6 ≡ asked_all Open (r1 ++ (r2 ++ (r3 ++ (r4 ++ (r5 ++ r6 (size_of (length boot) (length init))))))) =
-    joined Open r1 (r2 ++ (r3 ++ (r4 ++ (r5 ++ r6 (size_of (length boot) (length init)))))) h1
-    (joined g1 r2 (r3 ++ (r4 ++ (r5 ++ r6 (size_of (length boot) (length init))))) (then_asked g1 r2 h2 h2')
-    (joined g2 r3 (r4 ++ (r5 ++ r6 (size_of (length boot) (length init)))) (then_asked g2 r3 h3 h3')
-    (joined g3 r4 (r5 ++ r6 (size_of (length boot) (length init))) h4 (joined g4 r5 (r6 (size_of (length boot) (length init))) h5 last)))) in
-    hr ∙ ap (λ (a : ℕ). answer_by g6 k a) ha ∙ answer_checked (tests m image o limit t z n rows) (entry o z) (λ _. []) ex ek all
+  abbrev entry_row : List Test
+  entry_row = zero_page_tests image o.format z.wide k.kernel_load.0
+
+  abbrev line_row : List Test
+  line_row = line.tests t m z.line
+
+  abbrev page_row : List Test
+  page_row = page.tests page_size rows
+
+  abbrev ramdisk_row : List Test
+  ramdisk_row = ramdisk_tests image o.format z.ramdisk n
+
+  abbrev limit_row : List Test
+  limit_row = limit_tests (limit_of image o limit) (size_of (length boot) (length init))
+
+  abbrev pieces_row : List Test
+  pieces_row = pieces_tests m image o 3 rows (extent z.line (size_of (length boot) (length init))) (extent z.ramdisk n) (extent z.page page_size)
+
+  abbrev after_limit : List Test
+  after_limit = limit_row ++ pieces_row
+
+  abbrev after_page : List Test
+  after_page = ramdisk_row ++ after_limit
+
+  abbrev all : Check
+  all = asked_all pass (tests m image o limit t z n rows k)
+
+  module _ {g1 : Check} (h1 : g1 ≡ asked_all pass entry_row) where
+    pub entry_refuses : {r : Refusal} → g1 ≡ Err r → Err r ≡ all
+    entry_refuses e = sym (stops entry_row (line_row ++ (page_row ++ after_page)) h1 e)
+
+    module _ (p1 : g1 ≡ pass) {g2 : Check} (h2 : g2 ≡ (line.plan_of t m z.line).answer) where
+      to_line : all ≡ asked_all pass (line_row ++ (page_row ++ after_page))
+      to_line = goes entry_row (line_row ++ (page_row ++ after_page)) h1 p1
+
+      pub line_refused : {r : Refusal} → g2 ≡ Err r → Err r ≡ all
+      line_refused e = sym (to_line ∙ stops line_row (page_row ++ after_page) refl (line_refuses t m z.line h2 e))
+
+      module _ (p2 : g2 ≡ pass) {g3 : Check} (h3 : g3 ≡ page.gate_of page_size rows) where
+        to_page : all ≡ asked_all pass (page_row ++ after_page)
+        to_page = to_line ∙ goes line_row (page_row ++ after_page) refl (line_passes t m z.line h2 p2)
+
+        pub page_refuses : {r : Refusal} → g3 ≡ Err r → Err r ≡ all
+        page_refuses e = sym (to_page ∙ stops page_row after_page h3 e)
+
+        module _ (p3 : g3 ≡ pass) {g4 : Check} (h4 : g4 ≡ asked_all pass ramdisk_row) where
+          to_ramdisk : all ≡ asked_all pass after_page
+          to_ramdisk = to_page ∙ goes page_row after_page h3 p3
+
+          pub ramdisk_refuses : {r : Refusal} → g4 ≡ Err r → Err r ≡ all
+          ramdisk_refuses e = sym (to_ramdisk ∙ stops ramdisk_row after_limit h4 e)
+
+          module _ (p4 : g4 ≡ pass) {g5 : Check} (h5 : g5 ≡ asked_all pass limit_row) where
+            to_limit : all ≡ asked_all pass after_limit
+            to_limit = to_ramdisk ∙ goes ramdisk_row after_limit h4 p4
+
+            pub limit_refuses : {r : Refusal} → g5 ≡ Err r → Err r ≡ all
+            limit_refuses e = sym (to_limit ∙ stops limit_row pieces_row h5 e)
+
+            pub pieces_say : g5 ≡ pass → {g6 : Check} → g6 ≡ asked_all pass pieces_row → g6 ≡ all
+            pieces_say p5 h6 = h6 ∙ sym (to_limit ∙ goes limit_row pieces_row h5 p5)
 
 -- ---- the page, put into the part of guest memory that it takes
 
@@ -123,14 +144,14 @@ page_put at n g vs {ys} fits len e =
     ∙ sym (pour_at vs g at)
 
 -- the part has the size of a page
-pub open_part : (at : ℕ) (g rows : List ℕ) → at + page_size ≤ length g → page.gate_of page_size rows ≡ Open
-    → page.gate_of (length (mid_of at (at + page_size - at) g)) rows ≡ Open
+pub open_part : (at : ℕ) (g rows : List ℕ) → at + page_size ≤ length g → page.gate_of page_size rows ≡ pass
+    → page.gate_of (length (mid_of at (at + page_size - at) g)) rows ≡ pass
 open_part at g rows fits e =
     ap (λ (n : ℕ). page.gate_of n rows) (mid_len at (at + page_size) g fits ∙ (let same : at + page_size - at ≡ page_size = omega arith in same)) ∙ e
 
 -- ---- what the checks say if all of them hold
 
-module _ (m : Memory) (image : List ℕ) (o : Options) (limit : Limit) (t : Text) (z : ZeroPage) (n : ℕ) (rows : List ℕ) (k : KernelLoaderResult)
+module _ (m : Memory) (image : List ℕ) (o : Options) (limit : Option ℕ) (t : Text) (z : ZeroPage) (n : ℕ) (rows : List ℕ) (k : KernelLoaderResult)
     (hold : AllHold (tests m image o limit t z n rows k)) where
   pub line_hold : AllHold (line.tests t m z.line)
   line_hold = let h = hold.1.1.1 in (h.0, (h.1.0, (h.1.1.0, (h.1.1.1.0, tt))))
@@ -139,7 +160,7 @@ module _ (m : Memory) (image : List ℕ) (o : Options) (limit : Limit) (t : Text
       ++ pieces_tests m image o 3 rows (extent z.line (counted t)) (extent z.ramdisk n) (extent z.page page_size))))
   after_line = hold.1.1.1.1.1.1.1
 
-  pub page_open : page.gate_of page_size rows ≡ Open
+  pub page_open : page.gate_of page_size rows ≡ pass
   page_open =
       let h = after_line in
       all_open (page.tests page_size rows) (h.0, (h.1.0, (h.1.1.0, (h.1.1.1.0, tt))))
@@ -155,7 +176,7 @@ module _ (m : Memory) (image : List ℕ) (o : Options) (limit : Limit) (t : Text
 
 -- ---- what is written
 
-same_kernel : {k k' : KernelLoaderResult} → loading.Loaded k ≡ loading.Loaded k' → k ≡ k'
+same_kernel : {k k' : KernelLoaderResult} → ◌≡◌ {A = Result KernelLoaderResult Refusal} (Ok k) (Ok k') → k ≡ k'
 same_kernel e = cc
 
 all_poured : (guest : List ℕ) (s1 s2 s3 s4 : List Poke) → pour (s1 ++ (s2 ++ (s3 ++ (s4 ++ [])))) guest ≡ pour s4 (pour s3 (pour s2 (pour s1 guest)))
@@ -165,7 +186,7 @@ all_poured guest s1 s2 s3 s4 =
     ∙ pour_append s3 (s4 ++ []) (pour s2 (pour s1 guest))
     ∙ ap (λ (ps : List Poke). pour ps (pour s3 (pour s2 (pour s1 guest)))) (append-nil s4)
 
-module _ (image : List ℕ) (o : Options) (limit : Limit) (t : Text) (z : ZeroPage) (ramdisk rows : List ℕ) (map : Map) (guest : List ℕ) where
+module _ (image : List ℕ) (o : Options) (limit : Option ℕ) (t : Text) (z : ZeroPage) (ramdisk rows : List ℕ) (map : Map) (guest : List ℕ) where
   abbrev m : Memory
   m = memory_of guest map
 
@@ -175,11 +196,11 @@ module _ (image : List ℕ) (o : Options) (limit : Limit) (t : Text) (z : ZeroPa
   abbrev whole : KernelLoaderResult → List Poke
   whole k = boot_stream image o (blobs_of image o t z ramdisk rows k)
 
-  pub refused_boots : {answer : Answer} {r : Refusal} → answer ≡ answer_of m image o limit t z (length ramdisk) rows → answer ≡ Refused r
-      → Boots image o limit t z ramdisk rows map guest (Refused r) guest
+  pub refused_boots : {answer : Answer} {r : Refusal} → answer ≡ answer_of m image o limit t z (length ramdisk) rows → answer ≡ Err r
+      → Boots image o limit t z ramdisk rows map guest (Err r) guest
   refused_boots = refused_loads row (entry o z) whole (kernel.answer_of image m o) guest
 
-  module _ {answer : Answer} {b : result.Booted} (ea : answer ≡ answer_of m image o limit t z (length ramdisk) rows) (e : answer ≡ Booted b) where
+  module _ {answer : Answer} {b : result.Booted} (ea : answer ≡ answer_of m image o limit t z (length ramdisk) rows) (e : answer ≡ Ok b) where
     abbrev nothing : KernelLoaderResult → List Poke
     nothing k = []
 
@@ -192,18 +213,18 @@ module _ (image : List ℕ) (o : Options) (limit : Limit) (t : Text) (z : ZeroPa
     pub booted_small : length ramdisk ≤ top32
     booted_small = ramdisk_small m image o limit t z (length ramdisk) rows by.k held
 
-    pub booted_open : page.gate_of page_size rows ≡ Open
+    pub booted_open : page.gate_of page_size rows ≡ pass
     booted_open = page_open m image o limit t z (length ramdisk) rows by.k held
 
     pub booted_fits : z.page + page_size ≤ length guest
     booted_fits = room_size m z.page page_size (page_room m image o limit t z (length ramdisk) rows by.k held)
 
     -- each piece by its own call; the page goes into the part of guest memory that it takes
-    pub written_boots : {x : kernel_answer.Answer} {said : line_answer.Answer} {g1 g2 g3 g4 : List ℕ} {load : ℕ} → load ≡ b.kernel.kernel_load.0
+    pub written_boots : {x : Result KernelLoaderResult Refusal} {said : Check} {g1 g2 g3 g4 : List ℕ} {load : ℕ} → load ≡ b.kernel.kernel_load.0
         → kernel.LoadSays image o map guest x g1 → line.LineLoads t z.line map g1 said g2
         → g3 ≡ pour (stream_at z.ramdisk (bytes_at ramdisk 0 (length ramdisk))) g2
         → g4 ≡ pour (stream_at z.page (page.page_of (setup_by o.format image load) (addresses_of z (length ramdisk)) rows)) g3
-        → Boots image o limit t z ramdisk rows map guest (Booted b) g4
+        → Boots image o limit t z ramdisk rows map guest (Ok b) g4
     unfolding stream_of
     written_boots {said = said} {g1} {g2} {g3} {g4} {load} el says line-says e3 e4 =
         booted_loads row (entry o z) whole (kernel.answer_of image m o) guest g4 ea e
@@ -216,8 +237,8 @@ module _ (image : List ℕ) (o : Options) (limit : Limit) (t : Text) (z : ZeroPa
         let same : memory_of g1 map ≡ m = ap (λ (n : ℕ). record { size = n; map = map }) (ap length first ∙ length_pour s1 guest) in
         let planned : line.plan_of t (memory_of g1 map) z.line ≡ line.line_plan t z.line =
         ap (λ (y : Memory). line.plan_of t y z.line) same
-        ∙ all_planned line_loading.Refused (line.tests t m z.line) (line.line_plan t z.line) (line_hold m image o limit t z (length ramdisk) rows k hold) in
-        let second : g2 ≡ pour s2 g1 = line-says.memory ∙ ap (λ (p : Plan line_answer.Answer). pour p.stream g1) planned in
+        ∙ all_planned Err (line.tests t m z.line) (line.line_plan t z.line) (line_hold m image o limit t z (length ramdisk) rows k hold) in
+        let second : g2 ≡ pour s2 g1 = line-says.memory ∙ ap (λ (p : Plan Check). pour p.stream g1) planned in
         let third : g3 ≡ pour s3 g2 = e3 ∙ ap (λ (vs : List ℕ). pour (stream_at z.ramdisk vs) g2) (take_all (length ramdisk) ramdisk (omega arith)) in
         let loaded : load ≡ k.kernel_load.0 = el ∙ load_of k loads in
         e4
@@ -225,7 +246,7 @@ module _ (image : List ℕ) (o : Options) (limit : Limit) (t : Text) (z : ZeroPa
         ∙ ap (pour s4) (third ∙ ap (pour s3) (second ∙ ap (pour s2) first))
         ∙ sym (all_poured guest s1 s2 s3 s4))
       where
-        load_of : (k : KernelLoaderResult) → kernel.answer_of image m o ≡ loading.Loaded k → b.kernel.kernel_load.0 ≡ k.kernel_load.0
+        load_of : (k : KernelLoaderResult) → kernel.answer_of image m o ≡ Ok k → b.kernel.kernel_load.0 ≡ k.kernel_load.0
         load_of k loads =
             let same : ◌≡◌ {A = KernelLoaderResult} by.k k = same_kernel (sym by.loads ∙ loads) in
             ap (λ (r : result.Booted). r.kernel.kernel_load.0) by.is ∙ ap (λ (r : KernelLoaderResult). r.kernel_load.0) same

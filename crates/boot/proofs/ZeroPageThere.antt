@@ -1,4 +1,5 @@
 -- "After an accepted boot each piece is there, at one time; after a refusal nothing is": of a boot by zero page, of its contract.
+use Rattle.std.specs.Prelude.{Ok, Err, Option}
 use Prim.Native.Nat.{ℕ}
 use mathlib.Core.Path.{◌≡◌, sym, ◌∙◌, ap, subst⁻¹}
 use mathlib.Core.List.{List}
@@ -21,20 +22,17 @@ use Rattle.loader.proofs.LinesLaws as lines
 use Rattle.loads.specs.Formats as kernel
 use Rattle.loads.specs.declared.Options.{Options}
 use Rattle.boot.specs.Checks.{pieces_tests}
-use Rattle.boot.specs.Plan.{extent, boot_stream}
+use Rattle.boot.specs.Plan.{extent, boot_stream, Answer}
 use Rattle.boot.specs.There.{AllThere}
 use Rattle.boot.specs.ZeroPage.{setup_by, addresses_of, page_bytes, tests, blobs_of, entry, plan_of, Boots}
-use Rattle.boot.specs.declared.Answer.{Answer}
-use Rattle.boot.specs.declared.Answer.TheVariants.{Booted, Refused}
 use Rattle.boot.specs.declared.Booted as result
-use Rattle.boot.specs.declared.Limit.{Limit}
 use Rattle.boot.specs.declared.zero_page.ZeroPage.{ZeroPage}
 use Rattle.boot.proofs.PiecesThere.{three_there}
 use Rattle.boot.proofs.PlanLaws.{booted_by, refused_nothing}
 use Rattle.boot.proofs.ZeroPageLaws.{line_hold, pieces_hold}
 
 -- the pieces of a boot whose checks hold
-module _ (m : Memory) (image : List ℕ) (o : Options) (limit : Limit) (t : Text) (z : ZeroPage) (ramdisk rows : List ℕ) (k : KernelLoaderResult)
+module _ (m : Memory) (image : List ℕ) (o : Options) (limit : Option ℕ) (t : Text) (z : ZeroPage) (ramdisk rows : List ℕ) (k : KernelLoaderResult)
     (hold : AllHold (tests m image o limit t z (length ramdisk) rows k)) where
   line_size : length (line.line_bytes t) ≡ counted t
   line_size = lines.line_length t.boot t.init
@@ -48,7 +46,7 @@ module _ (m : Memory) (image : List ℕ) (o : Options) (limit : Limit) (t : Text
 
 -- ---- of the contract
 
-module _ (image : List ℕ) (o : Options) (limit : Limit) (t : Text) (z : ZeroPage) (ramdisk rows : List ℕ) (map : Map) (before : List ℕ) {r : Answer}
+module _ (image : List ℕ) (o : Options) (limit : Option ℕ) (t : Text) (z : ZeroPage) (ramdisk rows : List ℕ) (map : Map) (before : List ℕ) {r : Answer}
     {after : List ℕ} (boots : Boots image o limit t z ramdisk rows map before r after) where
   abbrev m : Memory
   m = memory_of before map
@@ -59,13 +57,13 @@ module _ (image : List ℕ) (o : Options) (limit : Limit) (t : Text) (z : ZeroPa
   abbrev whole : KernelLoaderResult → List Poke
   whole k = boot_stream image o (blobs_of image o t z ramdisk rows k)
 
-  pub refused_untouched : {refusal : Refusal} → r ≡ Refused refusal → after ≡ before
+  pub refused_untouched : {refusal : Refusal} → r ≡ Err refusal → after ≡ before
   refused_untouched e =
       nothing_written (plan_of m image o limit t z ramdisk rows) before after boots
       (refused_nothing row (entry o z) whole (kernel.answer_of image m o) (sym boots.answer ∙ e))
 
   -- all pieces: the kernel, the line and its zero, the ramdisk, and the page that names them
-  pub booted_there : {b : result.Booted} → r ≡ Booted b → AllThere image o (blobs_of image o t z ramdisk rows b.kernel) before after
+  pub booted_there : {b : result.Booted} → r ≡ Ok b → AllThere image o (blobs_of image o t z ramdisk rows b.kernel) before after
   booted_there {b} e =
       let by = booted_by row (entry o z) whole (kernel.answer_of image m o) (sym boots.answer ∙ e) in
       let k = by.k in

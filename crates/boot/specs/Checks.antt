@@ -1,8 +1,6 @@
 -- The checks that every boot has, however it is entered: after those of the pieces' own calls.
-use Rattle.std.specs.Prelude.{ℕ, ◌+◌, ◌≤◌, ◌<◌, ◌≡◌, List, [], ◌∷◌, ◌++◌, leb}
-use Rattle.answers.specs.Tests.{Test, asked_all}
-use Rattle.answers.specs.declared.Gate.{Gate}
-use Rattle.answers.specs.declared.Gate.TheVariants.{Open}
+use Rattle.std.specs.Prelude.{ℕ, ◌+◌, ◌≤◌, ◌<◌, ◌≡◌, List, [], ◌∷◌, ◌++◌, leb, Some, None, Option}
+use Rattle.answers.specs.Tests.{Test, asked_all, Check, pass}
 use Rattle.answers.specs.declared.Refusal.TheVariants as refusal
 use Rattle.bzimage.specs.Protocol.{line_limit}
 use Rattle.guest.specs.Room.{room_for}
@@ -13,27 +11,25 @@ use Rattle.loads.specs.declared.Format.TheVariants.{Elf, BzImage, Arm64}
 use Rattle.loads.specs.declared.Options.{Options}
 use Rattle.boot.specs.Kernel.{apart_from, kernel_apart, kernel_room, kernel_listed}
 use Rattle.boot.specs.Rows.{listed}
-use Rattle.boot.specs.declared.Limit.{Limit}
-use Rattle.boot.specs.declared.Limit.TheVariants.{Linux, Bytes}
 
 -- ---- how long a line the kernel takes, its zero not counted
 
 -- what the caller gives; Linux's own on ELF and arm64 is 2,047
-unfoldable pub given_limit : Limit → ℕ
-given_limit Linux = 2047
-given_limit (Bytes n) = n
+unfoldable pub given_limit : Option ℕ → ℕ
+given_limit None = 2047
+given_limit (Some n) = n
 
 -- a bzImage says it itself
-unfoldable pub limit_by : Format → List ℕ → Limit → ℕ
+unfoldable pub limit_by : Format → List ℕ → Option ℕ → ℕ
 limit_by Elf image limit = given_limit limit
 limit_by BzImage image limit = line_limit image
 limit_by Arm64 image limit = given_limit limit
 
-abbrev pub limit_of : List ℕ → Options → Limit → ℕ
+abbrev pub limit_of : List ℕ → Options → Option ℕ → ℕ
 limit_of image o limit = limit_by o.format image limit
 
 -- what a reader of it answers
-pub record LimitIs (image : List ℕ) (o : Options) (limit : Limit) (r : ℕ) : Type 0 where
+pub record LimitIs (image : List ℕ) (o : Options) (limit : Option ℕ) (r : ℕ) : Type 0 where
   pub value : r ≡ limit_of image o limit
   pub small : r < 4294967296
 
@@ -42,9 +38,9 @@ abbrev pub limit_tests : ℕ → ℕ → List Test
 limit_tests limit size = (leb size (limit + 1), refusal.LineTooLong) ∷ []
 
 -- what the check of it answers; a line that passes is short enough to be summed
-pub record LineChecked (gate : Gate) (limit size : ℕ) (r : Gate) : Type 0 where
-  pub checked : r ≡ asked_all gate (limit_tests limit size)
-  pub short : r ≡ Open → size ≤ 4294967296
+pub record LineChecked (limit size : ℕ) (r : Check) : Type 0 where
+  pub checked : r ≡ asked_all pass (limit_tests limit size)
+  pub short : r ≡ pass → size ≤ 4294967296
 
 -- ---- the pieces, by their ranges
 

@@ -1,13 +1,12 @@
 -- How a kernel is entered: the checks of it, and the entry address.
-use Rattle.std.specs.Prelude.{ℕ, ◌+◌, min, Bool, true, false, ◌||◌, List, [], ◌∷◌, leb}
+use Rattle.guest.specs.declared.GuestAddress.{GuestAddress}
+use Rattle.std.specs.Prelude.{ℕ, ◌+◌, min, Bool, true, false, ◌||◌, List, [], ◌∷◌, leb, Some, None, Option}
 use Rattle.answers.specs.Pick.{pick}
 use Rattle.answers.specs.Tests.{Test}
 use Rattle.answers.specs.declared.Refusal.TheVariants as refusal
 use Rattle.bzimage.specs.Protocol.{has64}
 use Rattle.fields.specs.Ranges.{top64}
 use Rattle.guest.specs.Addresses.{amount_of, is_given}
-use Rattle.guest.specs.declared.Given.{Given}
-use Rattle.guest.specs.declared.Given.TheVariants.{Nothing, At}
 use Rattle.guest.specs.declared.PvhBootCapability.{PvhBootCapability}
 use Rattle.guest.specs.declared.PvhBootCapability.TheVariants.{PvhEntryPresent, PvhEntryNotPresent, PvhEntryIgnored}
 use Rattle.loads.specs.declared.Format.{Format}
@@ -52,12 +51,12 @@ zero_page_tests image f wide load =
 
 -- ---- by PVH, in 32-bit mode
 
-unfoldable pub pvh_entry : PvhBootCapability → Given
-pvh_entry (PvhEntryPresent note) = At note.entry
-pvh_entry PvhEntryNotPresent = Nothing
-pvh_entry PvhEntryIgnored = Nothing
+unfoldable pub pvh_entry : PvhBootCapability → Option GuestAddress
+pvh_entry (PvhEntryPresent note) = Some note.entry
+pvh_entry PvhEntryNotPresent = None
+pvh_entry PvhEntryIgnored = None
 
-abbrev pub pvh_tests : Given → List Test
+abbrev pub pvh_tests : Option GuestAddress → List Test
 pvh_tests entry = (is_given entry, refusal.NoPvhEntry) ∷ (leb (amount_of entry) top32, refusal.WrongEntry) ∷ []
 
 -- ---- with a device tree

@@ -1,6 +1,6 @@
 -- A boot by PVH: an ELF kernel with a PVH entry; the line, a ramdisk, and the start block that names them, with its list
 -- of modules and its memory map after it.
-use Rattle.std.specs.Prelude.{ℕ, ◌+◌, ◌*◌, List, [], ◌∷◌, ◌++◌, eqb, length}
+use Rattle.std.specs.Prelude.{ℕ, ◌+◌, ◌*◌, List, [], ◌∷◌, ◌++◌, eqb, length, Option}
 use Rattle.answers.specs.Pick.{pick}
 use Rattle.answers.specs.Tests.{Test}
 use Rattle.cmdline.specs.Text.{Text, counted}
@@ -20,9 +20,7 @@ use Rattle.start_info.specs.declared.Start.{Start}
 use Rattle.boot.specs.Blobs.{Blob}
 use Rattle.boot.specs.Checks.{limit_of, limit_tests, pieces_tests}
 use Rattle.boot.specs.Entering.{pvh_entry, pvh_tests}
-use Rattle.boot.specs.Plan.{extent, boot_stream, plan_by}
-use Rattle.boot.specs.declared.Answer.{Answer}
-use Rattle.boot.specs.declared.Limit.{Limit}
+use Rattle.boot.specs.Plan.{extent, boot_stream, plan_by, Answer}
 use Rattle.boot.specs.declared.pvh.Pvh.{Pvh}
 
 -- how many numbers the list of modules has: one row of four if there is a ramdisk
@@ -53,7 +51,7 @@ block_bytes p n rows =
     ++ rows_bytes (field_width range_widths) rows 0)
 
 -- the checks: how it is entered, the line's own, the start block's own, the line's length, the pieces
-abbrev pub tests : Memory → List ℕ → Options → Limit → Text → Pvh → ℕ → List ℕ → KernelLoaderResult → List Test
+abbrev pub tests : Memory → List ℕ → Options → Option ℕ → Text → Pvh → ℕ → List ℕ → KernelLoaderResult → List Test
 tests m image o limit t p n rows k =
     pvh_tests (pvh_entry k.pvh_boot_cap)
     ++ (line.tests t m p.line.0
@@ -71,17 +69,17 @@ blobs_of t p ramdisk rows =
 abbrev pub entry : KernelLoaderResult → ℕ
 entry k = amount_of (pvh_entry k.pvh_boot_cap)
 
-abbrev pub plan_of : Memory → List ℕ → Options → Limit → Text → Pvh → List ℕ → List ℕ → Plan Answer
+abbrev pub plan_of : Memory → List ℕ → Options → Option ℕ → Text → Pvh → List ℕ → List ℕ → Plan Answer
 plan_of m image o limit t p ramdisk rows =
     plan_by (kernel.answer_of image m o) (tests m image o limit t p (length ramdisk) rows) entry
     (λ (k : KernelLoaderResult). boot_stream image o (blobs_of t p ramdisk rows))
 
 -- its answer, for which the ramdisk's size is enough
-abbrev pub answer_of : Memory → List ℕ → Options → Limit → Text → Pvh → ℕ → List ℕ → Answer
+abbrev pub answer_of : Memory → List ℕ → Options → Option ℕ → Text → Pvh → ℕ → List ℕ → Answer
 answer_of m image o limit t p n rows =
     (plan_by (kernel.answer_of image m o) (tests m image o limit t p n rows) entry (λ _. [])).answer
 
 -- a boot into guest memory with a map that held `before`: it answers r and leaves `after`
-abbrev pub Boots : List ℕ → Options → Limit → Text → Pvh → List ℕ → List ℕ → Map → List ℕ → Answer → List ℕ → Type 0
+abbrev pub Boots : List ℕ → Options → Option ℕ → Text → Pvh → List ℕ → List ℕ → Map → List ℕ → Answer → List ℕ → Type 0
 Boots image o limit t p ramdisk rows map before r after =
     Loads (plan_of (memory_of before map) image o limit t p ramdisk rows) before r after

@@ -1,9 +1,19 @@
 -- The rows of the memory map that the guest is given: `width` numbers each, of which the first three are address, size and
 -- type. Type 1 is memory that the kernel may use.
-use Rattle.std.specs.Prelude.{ℕ, zero, suc, ◌+◌, ◌*◌, ◌/◌, Bool, true, false, ◌&&◌, ◌||◌, List, eqb, length, get_or}
+use Rattle.std.specs.Prelude.{ℕ, zero, suc, ◌+◌, ◌*◌, ◌/◌, Bool, true, false, ◌&&◌, ◌||◌, List, [], eqb, length, get_or, Option, Some, None}
 use Rattle.answers.specs.Pick.{pick}
 use Rattle.guest.specs.Maps.{in_range}
 use Rattle.guest.specs.declared.Extent.{Extent}
+use Rattle.boot.specs.declared.MapRows.{MapRows}
+
+-- rows that are given: their width and their numbers, or 0 and none if there are no rows
+abbrev pub width_in : Option MapRows → ℕ
+width_in None = 0
+width_in (Some r) = r.width
+
+abbrev pub numbers_in : Option MapRows → List ℕ
+numbers_in None = []
+numbers_in (Some r) = r.numbers.now
 
 -- is row i of type 1, and do n bytes at an address lie in it?
 unfoldable pub in_row : ℕ → List ℕ → ℕ → ℕ → ℕ → Bool

@@ -1,5 +1,5 @@
 -- A boot by zero page: a bzImage, or an ELF kernel by its 64-bit entry; the line, a ramdisk, and the page that names them.
-use Rattle.std.specs.Prelude.{ℕ, Bool, true, List, [], ◌∷◌, ◌++◌, leb, eqb, length}
+use Rattle.std.specs.Prelude.{ℕ, Bool, true, List, [], ◌∷◌, ◌++◌, leb, eqb, length, Option}
 use Rattle.answers.specs.Pick.{pick}
 use Rattle.answers.specs.Tests.{Test}
 use Rattle.answers.specs.declared.Refusal.TheVariants.{RamdiskTooHigh}
@@ -23,9 +23,7 @@ use Rattle.loads.specs.declared.Options.{Options}
 use Rattle.boot.specs.Blobs.{Blob}
 use Rattle.boot.specs.Checks.{limit_of, limit_tests, pieces_tests}
 use Rattle.boot.specs.Entering.{top32, entry_of, zero_page_tests}
-use Rattle.boot.specs.Plan.{extent, boot_stream, plan_by}
-use Rattle.boot.specs.declared.Answer.{Answer}
-use Rattle.boot.specs.declared.Limit.{Limit}
+use Rattle.boot.specs.Plan.{extent, boot_stream, plan_by, Answer}
 use Rattle.boot.specs.declared.zero_page.ZeroPage.{ZeroPage}
 
 -- the setup header for an ELF kernel, which has none of its own: boot_flag, "HdrS", a kernel_alignment of 16 MiB, all else 0
@@ -62,7 +60,7 @@ abbrev pub ramdisk_tests : List ℕ → Format → ℕ → ℕ → List Test
 ramdisk_tests image f at n = (ends_below (end_by f image) at n, RamdiskTooHigh) ∷ (leb n top32, RamdiskTooHigh) ∷ []
 
 -- the checks: how it is entered, the line's own, the page's own, the ramdisk, the line's length, the pieces
-abbrev pub tests : Memory → List ℕ → Options → Limit → Text → ZeroPage → ℕ → List ℕ → KernelLoaderResult → List Test
+abbrev pub tests : Memory → List ℕ → Options → Option ℕ → Text → ZeroPage → ℕ → List ℕ → KernelLoaderResult → List Test
 tests m image o limit t z n rows k =
     zero_page_tests image o.format z.wide k.kernel_load.0
     ++ (line.tests t m z.line
@@ -80,17 +78,17 @@ blobs_of image o t z ramdisk rows k =
 abbrev pub entry : Options → ZeroPage → KernelLoaderResult → ℕ
 entry o z k = entry_of o.format z.wide k.kernel_load.0
 
-abbrev pub plan_of : Memory → List ℕ → Options → Limit → Text → ZeroPage → List ℕ → List ℕ → Plan Answer
+abbrev pub plan_of : Memory → List ℕ → Options → Option ℕ → Text → ZeroPage → List ℕ → List ℕ → Plan Answer
 plan_of m image o limit t z ramdisk rows =
     plan_by (kernel.answer_of image m o) (tests m image o limit t z (length ramdisk) rows) (entry o z)
     (λ (k : KernelLoaderResult). boot_stream image o (blobs_of image o t z ramdisk rows k))
 
 -- its answer, for which the ramdisk's size is enough
-abbrev pub answer_of : Memory → List ℕ → Options → Limit → Text → ZeroPage → ℕ → List ℕ → Answer
+abbrev pub answer_of : Memory → List ℕ → Options → Option ℕ → Text → ZeroPage → ℕ → List ℕ → Answer
 answer_of m image o limit t z n rows =
     (plan_by (kernel.answer_of image m o) (tests m image o limit t z n rows) (entry o z) (λ _. [])).answer
 
 -- a boot into guest memory with a map that held `before`: it answers r and leaves `after`
-abbrev pub Boots : List ℕ → Options → Limit → Text → ZeroPage → List ℕ → List ℕ → Map → List ℕ → Answer → List ℕ → Type 0
+abbrev pub Boots : List ℕ → Options → Option ℕ → Text → ZeroPage → List ℕ → List ℕ → Map → List ℕ → Answer → List ℕ → Type 0
 Boots image o limit t z ramdisk rows map before r after =
     Loads (plan_of (memory_of before map) image o limit t z ramdisk rows) before r after

@@ -1,46 +1,38 @@
-// The rows of the guest's memory map.
+// The rows of the guest's memory map, in one list of numbers, as the C functions take them.
 ghost use Rattle.std.specs.Prelude.{◌≡◌, ◌+◌, ◌*◌, ◌<◌, length};
-ghost use Rattle.boot.specs.Rows.{in_row, listed};
+ghost use Rattle.boot.specs.Rows.{in_row, listed, width_in, numbers_in};
 
-use fields::ranges;
-use guest::Extent;
+use crate::MapRows;
+use guest::{Extent, GuestAddress, maps};
 
-// Is row i, which the list has, of type 1, and do n bytes at an address lie in it?
+// Is row i, which the list has, of type 1, and do n bytes at an address lie in it? The two fields of `MapRows` come
+// apart: the clause is over the numbers, of which the list has row i.
 fn in_row(rows: &[u64], width: usize, i: usize, address: u64, n: u64) -> bool
     requires { i * width + 2 < length rows.now }
     ensures { result ≡ in_row width rows.now i address n }
 {
-    let start = rows[i * width];
-    if rows[i * width + 2] != 1 {
-        return false;
-    }
-    if address < start {
-        return false;
-    }
-    ranges::within(rows[i * width + 1], address - start, n)
+    let row = Extent {
+        at: GuestAddress(rows[i * width]),
+        size: rows[i * width + 1],
+    };
+    rows[i * width + 2] == 1 && maps::in_range(row, address, n)
 }
 
-// Does a range lie in one row of type 1? A width of 0 stands for no rows at all, which are not checked; any other is at
-// least 3.
-pub(crate) fn is_listed(rows: &[u64], width: usize, range: Extent) -> bool
-    requires { width < 3 → width < 1 }
-    ensures { result ≡ listed width rows.now range }
+// Does a range lie in one row of type 1?
+fn is_in_rows(rows: MapRows, range: Extent) -> bool
+    ensures { result ≡ listed rows.entry.width rows.entry.numbers.now range }
 {
-    let address = range.at.0;
-    let n = range.size;
-    if width == 0 {
-        return true;
+    let MapRows { numbers, width } = rows;
+    range.size == 0
+        || (0..numbers.len() / width).any(|i| in_row(numbers, width, i, range.at.0, range.size))
+}
+
+// The same for rows that a boot may have or not: a boot without rows passes.
+pub(crate) fn is_listed(rows: Option<MapRows>, range: Extent) -> bool
+    ensures { result ≡ listed (width_in rows.entry) (numbers_in rows.entry) range }
+{
+    match rows {
+        None => true,
+        Some(rows) => is_in_rows(rows, range),
     }
-    if n == 0 {
-        return true;
-    }
-    let count = rows.len() / width;
-    let mut i = 0;
-    while i < count {
-        if in_row(rows, width, i, address, n) {
-            return true;
-        }
-        i += 1;
-    }
-    false
 }

@@ -1,6 +1,6 @@
 -- Laws of the memory map's test, as the code asks it.
-use Prim.Native.Nat.{ℕ, suc, ◌-◌, ◌≤◌, ◌<◌}
-use mathlib.Core.Path.{◌≡◌, ap, sym, ◌∙◌}
+use Prim.Native.Nat.{ℕ, suc, ◌-◌, ◌<◌}
+use mathlib.Core.Path.{◌≡◌, ◌∙◌, refl, ap}
 use mathlib.Core.Bool.{Bool, true, false, ◌&&◌}
 use mathlib.Core.List.{List}
 use native.Mathlib.Omega.{arith}
@@ -8,8 +8,8 @@ use borrow.Author.Tests.{lt-ltb, le-ltb}
 use lib.Dec.{ltb}
 use Rattle.fields.specs.Ranges.{fits64}
 use Rattle.fields.specs.Every.{every}
-use Rattle.fields.proofs.EveryLaws.{both_held, left_failed, right_failed, every_next, every_each, each_every, every_fails}
-use Rattle.boot_page.specs.Map.{count_of, address_of, size_of, rows_apart, row_is_good, map_is_good}
+use Rattle.fields.proofs.EveryLaws.{left_failed, right_failed}
+use Rattle.boot_page.specs.Map.{address_of, size_of, rows_apart, row_is_good}
 
 module _ (rows : List ℕ) (i : ℕ) where
   pub row_empty : size_of rows i ≡ 0 → row_is_good rows i ≡ false
@@ -20,34 +20,32 @@ module _ (rows : List ℕ) (i : ℕ) where
   unfolding row_is_good
   row_wraps f = right_failed (ltb 0 (size_of rows i)) (left_failed (every (rows_apart rows i) i) f)
 
-  pub row_overlaps : (j : ℕ) → j < i → rows_apart rows i j ≡ false → row_is_good rows i ≡ false
+  -- of the others the test of the earlier rows is what is left
+  pub row_by : {b : Bool} → (size_of rows i ≡ 0 → ⊥) → fits64 (address_of rows i) (size_of rows i) ≡ true → b ≡ every (rows_apart rows i) i → b ≡ row_is_good rows i
   unfolding row_is_good
-  row_overlaps j h f =
-      right_failed (ltb 0 (size_of rows i)) (right_failed (fits64 (address_of rows i) (size_of rows i)) (every_fails (rows_apart rows i) i j h f))
+  row_by some fits e = rw (lt-ltb 0 (size_of rows i) (omega arith), fits) e
 
-  -- from the nearest row on: the d-th of them
-  abbrev pub nearest : ℕ → Bool
-  nearest d = rows_apart rows i (i - 1 - d)
+-- ---- the earlier rows, the nearest first, of which those below j are left to test
 
-  -- one row further away
-  pub nearest_next : (d : ℕ) {m : ℕ} → m ≡ suc d → every nearest d ≡ true → nearest d ≡ true → every nearest m ≡ true
-  nearest_next d e all one = ap (every nearest) e ∙ every_next nearest d all one
+and_true : (a : Bool) → (a && true) ≡ a
+and_true true = refl
+and_true false = refl
 
-  all_apart : (k : ℕ) → i ≤ k → every nearest k ≡ true → every (rows_apart rows i) i ≡ true
-  all_apart k far all =
-      each_every (rows_apart rows i) i
-      (λ j h. ap (rows_apart rows i) (let same : j ≡ i - 1 - (i - 1 - j) = omega arith in same) ∙ every_each nearest k (i - 1 - j) all (omega arith))
+-- one that is apart leaves those before it
+pub row_left : (rows : List ℕ) (i j : ℕ) → 0 < j → every (rows_apart rows i) i ≡ every (rows_apart rows i) j → rows_apart rows i (j - 1) ≡ true
+    → every (rows_apart rows i) i ≡ every (rows_apart rows i) (j - 1)
+unfolding every
+row_left rows i j some left is =
+    let test = rows_apart rows i in
+    let last : j ≡ suc (j - 1) = omega arith in
+    left ∙ ap (every test) last ∙ ap (λ b. every test (j - 1) && b) is ∙ and_true (every test (j - 1))
 
-  pub row_good : (k : ℕ) → (size_of rows i ≡ 0 → ⊥) → fits64 (address_of rows i) (size_of rows i) ≡ true → i ≤ k → every nearest k ≡ true
-      → row_is_good rows i ≡ true
-  unfolding row_is_good
-  row_good k some fits far all = both_held (lt-ltb 0 (size_of rows i) (omega arith)) (both_held fits (all_apart k far all))
-
--- every row
-pub map_fails : (rows : List ℕ) (i : ℕ) {n : ℕ} → n ≡ count_of rows → i < n → row_is_good rows i ≡ false → map_is_good rows ≡ false
-unfolding map_is_good
-map_fails rows i e h f = every_fails (row_is_good rows) (count_of rows) i (omega arith) f
-
-pub map_good : (rows : List ℕ) {i : ℕ} → i ≡ count_of rows → every (row_is_good rows) i ≡ true → map_is_good rows ≡ true
-unfolding map_is_good
-map_good rows e all = ap (every (row_is_good rows)) (sym e) ∙ all
+-- and one that is not decides
+pub row_met : (rows : List ℕ) (i j : ℕ) → 0 < j → every (rows_apart rows i) i ≡ every (rows_apart rows i) j → rows_apart rows i (j - 1) ≡ false
+    → row_is_good rows i ≡ false
+unfolding every row_is_good
+row_met rows i j some left is =
+    let test = rows_apart rows i in
+    let last : j ≡ suc (j - 1) = omega arith in
+    let met = left ∙ ap (every test) last ∙ right_failed (every test (j - 1)) is in
+    right_failed (ltb 0 (size_of rows i)) (right_failed (fits64 (address_of rows i) (size_of rows i)) met)

@@ -1,27 +1,26 @@
 -- The sentence "a reader .. gives back the rows, the addresses and the header, its loader type, command line and ramdisk fields as set
 -- here": of a page that was built.
+use Rattle.std.specs.Prelude.{Ok, Result}
 use Prim.Native.Nat.{ℕ, zero, suc, ◌+◌, ◌-◌, ◌*◌, ◌≤◌, min}
-use mathlib.Core.Path.{◌≡◌, refl, ap, subst⁻¹, ◌∙◌}
+use mathlib.Core.Path.{◌≡◌, refl, sym, ap, subst, subst⁻¹, ◌∙◌}
 use mathlib.Core.List.{List}
 use native.Mathlib.Omega.{arith}
 use borrow.Author.Tests.{leb-true, le-leb, eq-eqb}
 use lib.ListN.{length, get_or}
 use lib.Seq.{sets}
-use Rattle.answers.specs.Tests.{AllHold}
-use Rattle.answers.specs.declared.Gate.{Gate}
-use Rattle.answers.specs.declared.Gate.TheVariants.{Open}
+use Rattle.answers.specs.Tests.{AllHold, Check, pass}
+use Rattle.answers.specs.declared.Refusal.{Refusal}
 use Rattle.fields.specs.Numbers.{le}
 use Rattle.fields.specs.Rows.{field_width, rows_numbers}
 use Rattle.bzimage.specs.SetupHeader.{header_size, header_start}
 use Rattle.bzimage.specs.Header.{bytes_from, header_read}
 use Rattle.bzimage.proofs.Returned.{length_bytes, byte_of}
 use Rattle.boot_page.specs.declared.Addresses.{Addresses}
-use Rattle.boot_page.specs.declared.Answer.TheVariants.{Read}
-use Rattle.boot_page.specs.declared.Outcome.{Outcome}
+use Rattle.boot_page.specs.declared.Page.{Page}
 use Rattle.boot_page.specs.Places.{page_size, header_at, loader_type_at, ramdisk_at, ramdisk_size_at, command_line_at, rows_at}
 use Rattle.boot_page.specs.Map.{row_widths, most_rows, count_of, count_in}
 use Rattle.boot_page.specs.Building.{tests, Builds}
-use Rattle.boot_page.specs.Reading.{read_tests, addresses_in, standing_in, Reads}
+use Rattle.boot_page.specs.Reading.{read_tests, addresses_in, fields_in, Reads}
 use Rattle.boot_page.specs.Page.{Fit32, IsPage, SetHeader}
 use Rattle.boot_page.proofs.PageSet.{whole_count, page_set}
 use Rattle.boot_page.proofs.Refusals.{built_where, where_built, read_where}
@@ -46,12 +45,16 @@ header_back header addresses rows page is =
       as_given = λ i h free. byte_of header_size page header_start i h ∙ is.setup_header i h free;
     }
 
+-- a page that is returned is the only one
+ok_same : {a b : Page} → ◌≡◌ {A = Result Page Refusal} (Ok a) (Ok b) → a ≡ b
+ok_same e = cc
+
 -- the addresses of such a page
 addresses_back : (header : List ℕ) (addresses : Addresses) (rows page : List ℕ) → IsPage header addresses rows page → addresses_in page ≡ addresses
 unfolding addresses_in
 addresses_back header addresses rows page is = rw (is.command_line, is.ramdisk, is.ramdisk_size)
 
-module _ (header : List ℕ) (addresses : Addresses) (rows before : List ℕ) {gate : Gate} {page : List ℕ} (builds : Builds header addresses rows before gate page) (built : gate ≡ Open) (fit : Fit32 addresses) where
+module _ (header : List ℕ) (addresses : Addresses) (rows before : List ℕ) {gate : Check} {page : List ℕ} (builds : Builds header addresses rows before gate page) (built : gate ≡ pass) (fit : Fit32 addresses) where
   held : AllHold (tests (length before) rows)
   held = where_built header addresses rows before builds built
 
@@ -65,20 +68,19 @@ module _ (header : List ℕ) (addresses : Addresses) (rows before : List ℕ) {g
       let few = leb-true (count_of rows) most_rows held.1.1.0 in
       (eq-eqb (length page) page_size built_page.size, (le-leb (count_in page) most_rows (omega (arith, built_page.count)), tt))
 
-  module _ (list : List ℕ) {r : Outcome} {after : List ℕ} (reads : Reads page list r after) where
-    as_read : r ≡ standing_in page
+  module _ (list : List ℕ) {r : Result Page Refusal} {after : List ℕ} (reads : Reads page list r after) where
+    as_read : r ≡ Ok (fields_in page)
     as_read = (read_where page list reads readable).0
 
-    pub answer_back : r.answer ≡ Read (record { rows = count_of rows; addresses = addresses })
-    unfolding standing_in
-    answer_back =
-        ap (λ (o : Outcome). o.answer) as_read
-        ∙ rw (built_page.count, addresses_back header addresses rows page built_page)
+    pub answer_back : r ≡ Ok (record { rows = count_of rows; addresses = addresses; setup_header = header_read page })
+    unfolding fields_in
+    answer_back = as_read ∙ rw (built_page.count, addresses_back header addresses rows page built_page)
 
-    pub setup_header_back : SetHeader header addresses r.setup_header
-    unfolding standing_in
-    setup_header_back =
-        subst⁻¹ (SetHeader header addresses) (ap (λ (o : Outcome). o.setup_header) as_read) (header_back header addresses rows page built_page)
+    pub setup_header_back : {found : Page} → r ≡ Ok found → SetHeader header addresses found.setup_header
+    unfolding fields_in
+    setup_header_back {found} e =
+        let same : fields_in page ≡ found = ok_same (sym as_read ∙ e) in
+        subst (λ (p : Page). SetHeader header addresses p.setup_header) same (header_back header addresses rows page built_page)
 
     -- the rows, in a list that has room for them
     pub rows_back_read : length rows ≤ length list → after ≡ sets list 0 rows

@@ -1,6 +1,7 @@
 -- The sentences "refusals, in order: .. the page is then untouched" and "a reader, refusing 73 and a count over 128 as 74": a page is built
 -- exactly where every test holds, and refused exactly by the first test that fails, with the page as it was; a page is read exactly where
 -- it has its size and its count is not over 128, and then what stands there is told, whoever wrote it.
+use Rattle.std.specs.Prelude.{Ok, Err, Result, is_ok}
 use Prim.Native.Nat.{ℕ}
 use mathlib.Core.Path.{◌≡◌, sym, ◌∙◌, refl, ap, subst}
 use mathlib.Core.List.{List, [], ◌∷◌}
@@ -9,44 +10,40 @@ use lib.ListN.{length}
 use lib.Seq.{sets}
 use Rattle.answers.specs.Pick.{pick}
 use Rattle.answers.specs.Catalogue.{number_of}
-use Rattle.answers.specs.Tests.{Test, asked_all, is_open, AllHold, FirstFails, here, later}
+use Rattle.answers.specs.Tests.{Test, asked_all, AllHold, FirstFails, here, later, Check, pass}
 use Rattle.answers.specs.declared.Refusal.{Refusal}
 use Rattle.answers.specs.declared.Refusal.TheVariants.{BadPageSize, TooManyRows}
-use Rattle.answers.specs.declared.Gate.{Gate}
-use Rattle.answers.specs.declared.Gate.TheVariants.{Open, Shut}
 use Rattle.answers.proofs.TestsLaws.{open_all, all_open, shut_first, first_shut}
 use Rattle.fields.specs.Numbers.{le}
 use Rattle.boot_page.specs.declared.Addresses.{Addresses}
 use Rattle.boot_page.specs.declared.Page.{Page}
-use Rattle.boot_page.specs.declared.Answer.TheVariants.{Read, Refused}
-use Rattle.boot_page.specs.declared.Outcome.{Outcome}
 use Rattle.boot_page.specs.Answers.{built_number, read_number, read_values}
 use Rattle.boot_page.specs.Places.{command_line_at, ramdisk_at, ramdisk_size_at}
 use Rattle.boot_page.specs.Map.{count_in, rows_in}
 use Rattle.boot_page.specs.Building.{tests, page_of, Builds}
-use Rattle.boot_page.specs.Reading.{read_tests, addresses_in, standing_in, refused_as, read_by, Reads}
+use Rattle.boot_page.specs.Reading.{read_tests, addresses_in, fields_in, read_by, Reads}
 
 -- ---- building
 
-module _ (header : List ℕ) (addresses : Addresses) (rows before : List ℕ) {r : Gate} {after : List ℕ} (builds : Builds header addresses rows before r after) where
+module _ (header : List ℕ) (addresses : Addresses) (rows before : List ℕ) {r : Check} {after : List ℕ} (builds : Builds header addresses rows before r after) where
   abbrev row : List Test
   row = tests (length before) rows
 
-  left_by : {gate : Gate} → asked_all Open row ≡ gate → after ≡ pick (is_open gate) (page_of header addresses rows) before
-  left_by e = builds.page ∙ ap (λ g. pick (is_open g) (page_of header addresses rows) before) e
+  left_by : {gate : Check} → asked_all pass row ≡ gate → after ≡ pick (is_ok gate) (page_of header addresses rows) before
+  left_by e = builds.page ∙ ap (λ g. pick (is_ok g) (page_of header addresses rows) before) e
 
-  pub built_where : AllHold row → (r ≡ Open) × (after ≡ page_of header addresses rows)
-  unfolding is_open pick
+  pub built_where : AllHold row → (r ≡ pass) × (after ≡ page_of header addresses rows)
+  unfolding pick
   built_where h = let e = all_open row h in (builds.answer ∙ e, left_by e)
 
-  pub where_built : r ≡ Open → AllHold row
+  pub where_built : r ≡ pass → AllHold row
   where_built e = open_all row (sym builds.answer ∙ e)
 
-  pub refused_where : {refusal : Refusal} → FirstFails refusal row → (r ≡ Shut refusal) × (after ≡ before)
-  unfolding is_open pick
+  pub refused_where : {refusal : Refusal} → FirstFails refusal row → (r ≡ Err refusal) × (after ≡ before)
+  unfolding pick
   refused_where {refusal} f = let e = first_shut row refusal f in (builds.answer ∙ e, left_by e)
 
-  pub where_refused : {refusal : Refusal} → r ≡ Shut refusal → FirstFails refusal row
+  pub where_refused : {refusal : Refusal} → r ≡ Err refusal → FirstFails refusal row
   where_refused {refusal} e = shut_first row refusal (sym builds.answer ∙ e)
 
   -- the same by the catalogue
@@ -60,59 +57,57 @@ module _ (header : List ℕ) (addresses : Addresses) (rows before : List ℕ) {r
 
 -- ---- reading
 
-module _ (page before : List ℕ) {r : Outcome} {after : List ℕ} (reads : Reads page before r after) where
+module _ (page before : List ℕ) {r : Result Page Refusal} {after : List ℕ} (reads : Reads page before r after) where
   abbrev read_row : List Test
   read_row = read_tests page
 
-  read_by_lem : {gate : Gate} → asked_all Open read_row ≡ gate → (r ≡ read_by gate page) × (after ≡ pick (is_open gate) (sets before 0 (rows_in page (length before))) before)
+  read_by_lem : {gate : Check} → asked_all pass read_row ≡ gate → (r ≡ read_by gate page) × (after ≡ pick (is_ok gate) (sets before 0 (rows_in page (length before))) before)
   read_by_lem e = (
     reads.answer ∙ ap (λ g. read_by g page) e,
-    reads.rows ∙ ap (λ g. pick (is_open g) (sets before 0 (rows_in page (length before))) before) e,
+    reads.rows ∙ ap (λ g. pick (is_ok g) (sets before 0 (rows_in page (length before))) before) e,
   )
 
-  pub read_where : AllHold read_row → (r ≡ standing_in page) × (after ≡ sets before 0 (rows_in page (length before)))
-  unfolding is_open pick read_by
+  pub read_where : AllHold read_row → (r ≡ Ok (fields_in page)) × (after ≡ sets before 0 (rows_in page (length before)))
+  unfolding pick read_by
   read_where h = read_by_lem (all_open read_row h)
 
-  pub not_read_where : {refusal : Refusal} → FirstFails refusal read_row → (r ≡ refused_as refusal) × (after ≡ before)
-  unfolding is_open pick read_by
+  pub not_read_where : {refusal : Refusal} → FirstFails refusal read_row → (r ≡ Err refusal) × (after ≡ before)
+  unfolding pick read_by
   not_read_where {refusal} f = read_by_lem (first_shut read_row refusal f)
 
   -- by the answer
-  by_gate : (gate : Gate) → asked_all Open read_row ≡ gate → (P : Outcome → Type 0) → (AllHold read_row → P (standing_in page))
-      → ((refusal : Refusal) → FirstFails refusal read_row → P (refused_as refusal)) → P r
+  by_gate : (gate : Check) → asked_all pass read_row ≡ gate → (P : Result Page Refusal → Type 0) → (AllHold read_row → P (Ok (fields_in page)))
+      → ((refusal : Refusal) → FirstFails refusal read_row → P (Err refusal)) → P r
   unfolding read_by
-  by_gate Open e P holds fails = subst P (sym (read_by_lem e).0) (holds (open_all read_row e))
-  by_gate (Shut refusal) e P holds fails = subst P (sym (read_by_lem e).0) (fails refusal (shut_first read_row refusal e))
+  by_gate (Ok _) e P holds fails = subst P (sym (read_by_lem e).0) (holds (open_all read_row e))
+  by_gate (Err refusal) e P holds fails = subst P (sym (read_by_lem e).0) (fails refusal (shut_first read_row refusal e))
 
-  pub where_read : {found : Page} → r.answer ≡ Read found → AllHold read_row
-  unfolding standing_in refused_as
+  pub where_read : {found : Page} → r ≡ Ok found → AllHold read_row
   where_read {found} =
-      by_gate (asked_all Open read_row) refl (λ o. o.answer ≡ Read found → AllHold read_row) (λ h e. h)
+      by_gate (asked_all pass read_row) refl (λ o. o ≡ Ok found → AllHold read_row) (λ h e. h)
       (λ refusal f e. let z : ◌≡◌ {A = ℕ} 0 1 = cc in absurd (omega arith))
 
-  pub where_not_read : {refusal : Refusal} → r.answer ≡ Refused refusal → FirstFails refusal read_row
-  unfolding standing_in refused_as
+  pub where_not_read : {refusal : Refusal} → r ≡ Err refusal → FirstFails refusal read_row
   where_not_read {refusal} =
-      by_gate (asked_all Open read_row) refl (λ o. o.answer ≡ Refused refusal → FirstFails refusal read_row)
+      by_gate (asked_all pass read_row) refl (λ o. o ≡ Err refusal → FirstFails refusal read_row)
       (λ h e. let z : ◌≡◌ {A = ℕ} 0 1 = cc in absurd (omega arith))
       (λ first f e. let same : ◌≡◌ {A = Refusal} first refusal = cc in subst (λ x. FirstFails x read_row) same f)
 
   -- the same by the catalogue
   pub read_number_lem : AllHold read_row
-      → (read_number r.answer ≡ 0)
-      × (read_values r.answer ≡ count_in page ∷ le 4 page command_line_at ∷ le 4 page ramdisk_at ∷ le 4 page ramdisk_size_at ∷ [])
-  unfolding read_number read_values standing_in addresses_in
+      → (read_number r ≡ 0)
+      × (read_values r ≡ count_in page ∷ le 4 page command_line_at ∷ le 4 page ramdisk_at ∷ le 4 page ramdisk_size_at ∷ [])
+  unfolding read_number read_values fields_in addresses_in
   read_number_lem h =
-      (ap (λ (o : Outcome). read_number o.answer) (read_where h).0, ap (λ (o : Outcome). read_values o.answer) (read_where h).0)
+      (ap read_number (read_where h).0, ap read_values (read_where h).0)
 
-  pub not_read_number : {refusal : Refusal} → FirstFails refusal read_row → (read_number r.answer ≡ number_of refusal) × (read_values r.answer ≡ [])
-  unfolding read_number read_values refused_as
+  pub not_read_number : {refusal : Refusal} → FirstFails refusal read_row → (read_number r ≡ number_of refusal) × (read_values r ≡ [])
+  unfolding read_number read_values
   not_read_number f =
-      (ap (λ (o : Outcome). read_number o.answer) (not_read_where f).0, ap (λ (o : Outcome). read_values o.answer) (not_read_where f).0)
+      (ap read_number (not_read_where f).0, ap read_values (not_read_where f).0)
 
   -- a refusal is for the size or for the count, and for nothing else
-  pub only_two : {refusal : Refusal} → r.answer ≡ Refused refusal → (P : Refusal → Type 0) → P BadPageSize → P TooManyRows → P refusal
+  pub only_two : {refusal : Refusal} → r ≡ Err refusal → (P : Refusal → Type 0) → P BadPageSize → P TooManyRows → P refusal
   only_two {refusal} e P size count = by_test (where_not_read e)
     where
       by_test : FirstFails refusal read_row → P refusal

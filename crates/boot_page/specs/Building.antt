@@ -1,11 +1,9 @@
 -- The page that is built, and what building it answers and leaves.
-use Rattle.std.specs.Prelude.{ℕ, ◌≡◌, List, [], ◌∷◌, ◌++◌, eqb, leb, length, take, replicate}
+use Rattle.std.specs.Prelude.{ℕ, ◌≡◌, List, [], ◌∷◌, ◌++◌, eqb, leb, length, take, replicate, is_ok}
 use Rattle.std.proofs.lemmas.List.Edits.{sets}
 use Rattle.answers.specs.Pick.{pick}
-use Rattle.answers.specs.Tests.{Test, asked_all, is_open}
+use Rattle.answers.specs.Tests.{Test, asked_all, Check, pass}
 use Rattle.answers.specs.declared.Refusal.TheVariants.{BadPageSize, BadList, TooManyRows, BadRow}
-use Rattle.answers.specs.declared.Gate.{Gate}
-use Rattle.answers.specs.declared.Gate.TheVariants.{Open}
 use Rattle.fields.specs.Numbers.{le_bytes}
 use Rattle.fields.specs.Rows.{field_width, rows_bytes, are_rows}
 use Rattle.bzimage.specs.SetupHeader.{header_size}
@@ -63,15 +61,15 @@ page_of header addresses rows = filled header addresses rows page_size
 
 -- ---- building a page that held `before`
 
--- where the tests stand
-abbrev pub gate_of : ℕ → List ℕ → Gate
-gate_of page_length rows = asked_all Open (tests page_length rows)
+-- what the tests return
+abbrev pub gate_of : ℕ → List ℕ → Check
+gate_of page_length rows = asked_all pass (tests page_length rows)
 
 -- what is left: the page where all tests hold, else what was there
 abbrev pub page_after : List ℕ → Addresses → List ℕ → List ℕ → List ℕ
-page_after header addresses rows before = pick (is_open (gate_of (length before) rows)) (page_of header addresses rows) before
+page_after header addresses rows before = pick (is_ok (gate_of (length before) rows)) (page_of header addresses rows) before
 
 -- it answers r and leaves `after`
-pub record Builds (header : List ℕ) (addresses : Addresses) (rows before : List ℕ) (r : Gate) (after : List ℕ) : Type 0 where
+pub record Builds (header : List ℕ) (addresses : Addresses) (rows before : List ℕ) (r : Check) (after : List ℕ) : Type 0 where
   pub answer : r ≡ gate_of (length before) rows
   pub page : after ≡ page_after header addresses rows before

@@ -1,12 +1,14 @@
-// The boot page: the 4,096-byte zero page of the Linux boot documents, built and read.
-#![tactic(auto)]
+// The boot page: the 4,096-byte zero page of the Linux boot documents, built and read. Rows are one list of numbers, as
+// the C function `rekusoyen_page_build` takes them. `plan` is named as in other crates, and follows those documents
+// alone.
+#![tactic(auto, unfolding(answers::specs::Pick::pick, answers::specs::Tests::asked))]
 
 ghost use Rattle.std.specs.Prelude.{◌≡◌};
 ghost use Rattle.boot_page.specs.Building.{gate_of, Builds};
 ghost use Rattle.boot_page.specs.Places.{page_size};
 ghost use Rattle.boot_page.specs.Reading.{Reads};
 
-use answers::{Gate, Refusal};
+use answers::Refusal;
 
 mod building;
 pub mod map;
@@ -21,60 +23,46 @@ pub struct Addresses {
     pub ramdisk_size: u32,
 }
 
-// What a page holds beside its rows and its setup header: how many rows, and the addresses.
+// What a page holds in addition to its rows: how many rows, the addresses, and the setup header.
 #[derive(Clone, Copy)]
 pub struct Page {
     pub rows: u64,
     pub addresses: Addresses,
-}
-
-#[derive(Clone, Copy)]
-pub enum Answer {
-    Read(Page),
-    Refused(Refusal),
-}
-
-// The answer, and the setup header. Beside a refusal the header is all zero.
-#[derive(Clone, Copy)]
-pub struct Outcome {
-    pub answer: Answer,
     pub setup_header: [u8; 123],
 }
 
-// The checks of the rows of a page, without the page: an open gate says that a page of 4,096 bytes will be built.
-pub fn plan(rows: &[u64]) -> Gate
+// The checks of the rows of a page, without the page: if they pass, `build` builds a page of 4,096 bytes.
+pub fn plan(rows: &[u64]) -> Result<(), Refusal>
     ensures { result ≡ gate_of page_size rows.now }
 {
-    building::ask(places::PAGE, rows)
+    building::check(places::PAGE, rows)
 }
 
-// Builds the page: all zero, then the setup header, of which a byte past its end counts as 0, then the loader type and the addresses over
-// it, the count of rows and the rows. A row is three numbers: address, size and type. An open gate says that the page is built; where it is
-// shut, the page is as it was.
-pub fn build(page: &mut [u8], setup_header: &[u8], addresses: Addresses, rows: &[u64]) -> Gate
+// Builds the page: all zero, then the setup header, of which a byte past its end counts as 0, then the loader type and
+// the addresses over it, the count of rows and the rows. A row is three numbers: address, size and type. If it refuses,
+// the page is as it was.
+#[tactic(auto, unfolding(answers::specs::Pick::pick))]
+pub fn build(
+    page: &mut [u8],
+    setup_header: &[u8],
+    addresses: Addresses,
+    rows: &[u64],
+) -> Result<(), Refusal>
     ensures { Builds setup_header.now addresses rows.now page.old result page.new }
 {
-    let gate = building::ask(page.len(), rows);
-    match gate {
-        Gate::Shut(_) => gate,
-        Gate::Open => {
-            building::fill(page, setup_header, addresses, rows);
-            gate
-        }
-    }
+    building::check(page.len(), rows)?;
+    building::fill(page, setup_header, addresses, rows);
+    Ok(())
 }
 
-// Reads a page, no matter who wrote it: what it holds. The numbers of the rows go to the front of a list that has room for
-// them; a shorter list gets as many as it has elements, and the answer's count is still the page's.
-pub fn read(page: &[u8], rows: &mut [u64]) -> Outcome
+// Reads a page, no matter who wrote it: what it holds. The numbers of the rows go to the front of a list that has room
+// for them; a shorter list gets as many as it has elements, and the count that is returned is still the page's. If it
+// refuses, the list is as it was.
+#[tactic(auto, unfolding(answers::specs::Pick::pick, crate::specs::Reading::read_by), using(crate::proofs::ReadingLaws::reads_open))]
+pub fn read(page: &[u8], rows: &mut [u64]) -> Result<Page, Refusal>
     ensures { Reads page.now rows.old result rows.new }
 {
-    let gate = reading::ask(page);
-    match gate {
-        Gate::Shut(refusal) => reading::refused(refusal),
-        Gate::Open => {
-            map::read(rows, page);
-            reading::standing(page)
-        }
-    }
+    reading::check(page)?;
+    map::read(rows, page);
+    Ok(reading::fields(page))
 }

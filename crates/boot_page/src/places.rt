@@ -1,4 +1,4 @@
-// Where the fields of the page stand, by the Linux boot documents.
+// The places of the fields of the page, by the Linux boot documents.
 
 pub(crate) const PAGE: usize = 4096;
 

@@ -9,10 +9,11 @@ use Rattle.answers.specs.Tests.{AllHold}
 use Rattle.fields.specs.Ranges.{apart}
 use Rattle.fields.specs.Rows.{field_width, rows_bytes, rows_length, are_rows}
 use Rattle.fields.proofs.RowsLaws.{rows_length_lem}
+use Rattle.guest.specs.Room.{room_for}
 use Rattle.guest.specs.declared.Memory.{Memory}
 use Rattle.start_info.specs.declared.Start.{Start}
 use Rattle.start_info.specs.Kinds.{block_widths, module_widths, range_widths, block_size, count_of, reserved_are_zero}
-use Rattle.start_info.specs.Parts.{lies, count_end, list_size}
+use Rattle.start_info.specs.Parts.{count_end, list_size}
 use Rattle.start_info.specs.Writing.{part_tests, tests, block_of}
 use Rattle.start_info.proofs.PartsLaws.{list_bytes}
 
@@ -58,13 +59,13 @@ module _ (m : Memory) (start : Start) (modules ranges : List ℕ) (hold : AllHol
   pub ranges_size : length (bytes_of range_widths ranges) ≡ list_size range_widths ranges
   ranges_size = list_bytes range_widths ranges refl ranges_are few_ranges
 
-  pub block_lies : lies m start.block.0 block_size ≡ true
+  pub block_lies : room_for m start.block.0 block_size ≡ true
   block_lies = parts.1.1.0
 
-  pub modules_lie : lies m start.modules.0 (list_size module_widths modules) ≡ true
+  pub modules_lie : room_for m start.modules.0 (list_size module_widths modules) ≡ true
   modules_lie = parts.1.1.1.0
 
-  pub ranges_lie : lies m start.ranges.0 (list_size range_widths ranges) ≡ true
+  pub ranges_lie : room_for m start.ranges.0 (list_size range_widths ranges) ≡ true
   ranges_lie = parts.1.1.1.1.0
 
   -- no two parts overlap, told by the lengths of their bytes

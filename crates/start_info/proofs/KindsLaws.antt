@@ -9,11 +9,12 @@ use native.Mathlib.Decide.{ℕ_discrete}
 use borrow.Author.Tests.{eq-eqb, ne_eqb, eqb-true}
 use lib.Dec.{eqb}
 use lib.ListN.{length, get_or}
+use Rattle.std.specs.List.{list_all, enumerate_from}
 use Rattle.answers.specs.Pick.{pick}
 use Rattle.fields.specs.Every.{every}
 use Rattle.fields.specs.Numbers.{le}
 use Rattle.fields.specs.Rows.{rows_numbers, rows_length}
-use Rattle.fields.proofs.EveryLaws.{every_each, each_every, every_fails}
+use Rattle.fields.proofs.EveryLaws.{every_each, each_every, every_fails, every_same, all_every}
 use Rattle.fields.proofs.RowsLaws.{numbers_count}
 use Rattle.start_info.specs.Kinds.{row_fields, reserved_is_zero, reserved_are_zero}
 use Rattle.fields.proofs.RowsPlaces.{number_at, length_next, le_clipped}
@@ -39,6 +40,12 @@ module _ (rows : List ℕ) where
   pub zero_all : {i : ℕ} → i ≡ length rows → every zero_at i ≡ true → reserved_are_zero rows ≡ true
   unfolding reserved_are_zero
   zero_all e all = ap (every zero_at) (sym e) ∙ all
+
+  -- each number of the list, counted from 0, is tested
+  pub zero_listed : list_all (λ (p : ℕ × ℕ). reserved_is_zero p.0 p.1) (enumerate_from 0 rows) ≡ reserved_are_zero rows
+  unfolding reserved_are_zero
+  zero_listed =
+      all_every reserved_is_zero rows 0 ∙ every_same _ _ (length rows) (λ i. ap (λ (k : ℕ). reserved_is_zero k (get_or rows i 0)) (zero-add i))
 
 -- what the test says
 

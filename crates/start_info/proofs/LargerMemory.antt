@@ -2,6 +2,7 @@
 -- written alike in memory that grows, the added bytes untouched, and only a 76 for room may change: one for overlap or
 -- for 2^32 rows stays. What the checker answers stays, too, of an accepted block and of one that is not accepted though
 -- all of it lies in guest memory.
+use Rattle.std.specs.Prelude.{Err}
 use Prim.Native.Nat.{ℕ, zero, suc, ◌+◌, ◌*◌, ◌≤◌, ◌<◌}
 use mathlib.Core.Path.{◌≡◌, sym, ◌∙◌, refl, ap, ap₂, subst⁻¹}
 use mathlib.Core.Bool.{Bool, true, false}
@@ -12,11 +13,9 @@ use borrow.Author.Tests.{ltb-true}
 use lib.Dec.{eqb}
 use lib.ListN.{length, length-append}
 use Rattle.answers.specs.Keeping.{same, ShutBy, shut_by}
-use Rattle.answers.specs.Tests.{Test}
+use Rattle.answers.specs.Tests.{Test, Check, pass}
 use Rattle.answers.specs.declared.Refusal.{Refusal}
 use Rattle.answers.specs.declared.Refusal.TheVariants.{BadPart}
-use Rattle.answers.specs.declared.Gate.{Gate}
-use Rattle.answers.specs.declared.Gate.TheVariants.{Open, Shut}
 use Rattle.answers.proofs.KeepingLaws.{Widens, end, stays, grows, kept, row_keeps, widens_append, widens_same}
 use Rattle.fields.specs.Numbers.{le}
 use Rattle.fields.specs.Rows.{field_width, rows_numbers, rows_length, row_length}
@@ -24,20 +23,20 @@ use Rattle.fields.proofs.NumbersLaws.{le_append}
 use Rattle.fields.proofs.WholeRows.{whole_rows}
 use Rattle.guest.specs.Loading.{RefusedFor}
 use Rattle.guest.specs.Maps.{good_map}
-use Rattle.guest.specs.Room.{Grows, Larger, memory_of}
+use Rattle.guest.specs.Room.{room_for, Grows, Larger, memory_of}
 use Rattle.guest.specs.Sizes.{allowed, longest}
 use Rattle.guest.specs.declared.Map.{Map}
 use Rattle.guest.specs.declared.Memory.{Memory}
 use Rattle.guest.proofs.MapsLaws.{good_longer}
-use Rattle.guest.proofs.RoomLaws.{longer_grows, larger_grows, allowed_longer, memory_stays}
+use Rattle.guest.proofs.RoomLaws.{longer_grows, larger_grows, allowed_longer, memory_stays, room_for_grows}
 use Rattle.guest.proofs.LoadingLaws.{load_kept, behind_keeps}
 use Rattle.start_info.specs.declared.Start.{Start}
 use Rattle.start_info.specs.Kinds.{module_widths, range_widths, magic, version, block_size, version_at, module_count_at, modules_at, ranges_at, range_count_at, reserved_at, row_fields, count_of, reserved_are_zero}
-use Rattle.start_info.specs.Parts.{lies, count_end, list_size}
+use Rattle.start_info.specs.Parts.{count_end, list_size}
 use Rattle.start_info.specs.Writing.{list_tests, part_tests, tests, plan_of, Writes}
 use Rattle.start_info.specs.Checking.{rows_in, rows_tests, check_tests, check_of}
 use Rattle.start_info.specs.Rule.{PartsLie, StartLies, ForRoom, NotInMemory}
-use Rattle.start_info.proofs.PartsLaws.{lies_within, lies_grows}
+use Rattle.start_info.proofs.PartsLaws.{lies_within}
 use Rattle.start_info.proofs.OnlyParts.{plan_inside}
 use Rattle.start_info.proofs.ExactRule.{where_accepted}
 
@@ -45,9 +44,9 @@ clash : {b : Bool} → b ≡ true → b ≡ false → ⊥
 clash t f = let w : ◌≡◌ {A = ℕ} 0 1 = cc in omega arith
 
 -- a part that comes to lie in guest memory, whose refusal may change if it did not
-part_grows : {May : Refusal → Type 0} {ts ts' : List Test} (m m' : Memory) → Grows m m' → (address n : ℕ) → (lies m address n ≡ false → May BadPart)
-    → (lies m address n ≡ true → Widens May ts ts') → Widens May ((lies m address n, BadPart) ∷ ts) ((lies m' address n, BadPart) ∷ ts')
-part_grows {May} {ts} {ts'} m m' more address n = by_test (lies m address n) (lies_grows m m' address n more)
+part_grows : {May : Refusal → Type 0} {ts ts' : List Test} (m m' : Memory) → Grows m m' → (address n : ℕ) → (room_for m address n ≡ false → May BadPart)
+    → (room_for m address n ≡ true → Widens May ts ts') → Widens May ((room_for m address n, BadPart) ∷ ts) ((room_for m' address n, BadPart) ∷ ts')
+part_grows {May} {ts} {ts'} m m' more address n = by_test (room_for m address n) (room_for_grows m m' address n more)
   where
     by_test : (b : Bool) {b' : Bool} → (b ≡ true → b' ≡ true) → (b ≡ false → May BadPart) → (b ≡ true → Widens May ts ts')
         → Widens May ((b, BadPart) ∷ ts) ((b', BadPart) ∷ ts')
@@ -87,15 +86,15 @@ module _ (start : Start) (modules ranges : List ℕ) (m m' : Memory) (more : Gro
       (λ _. widens_same May (list_tests range_widths ranges)))
       (λ _. parts_widen)
 
-module _ (start : Start) (modules ranges : List ℕ) (map : Map) (guest more : List ℕ) {r r' : Gate} {after after' : List ℕ}
+module _ (start : Start) (modules ranges : List ℕ) (map : Map) (guest more : List ℕ) {r r' : Check} {after after' : List ℕ}
     (before : Writes start modules ranges map guest r after) (short : length (guest ++ more) ≤ longest) (good : good_map (length guest) map ≡ true) where
-  module _ (stays-so : RefusedFor Shut (ForRoom (memory_of guest map) start modules ranges) r → ⊥) where
+  module _ (stays-so : RefusedFor Err (ForRoom (memory_of guest map) start modules ranges) r → ⊥) where
     pub guest_grows : (map' : Map) → good_map (length (guest ++ more)) map' ≡ true → Grows (memory_of guest map) (memory_of (guest ++ more) map')
         → Writes start modules ranges map' (guest ++ more) r' after' → (r' ≡ r) × (after' ≡ after ++ more)
     guest_grows map' good' more_Room longer =
-        load_kept (plan_of (memory_of guest map) start modules ranges) guest after before (RefusedFor Shut (ForRoom (memory_of guest map) start modules ranges)) (memory_of guest map)
+        load_kept (plan_of (memory_of guest map) start modules ranges) guest after before (RefusedFor Err (ForRoom (memory_of guest map) start modules ranges)) (memory_of guest map)
         (plan_inside (memory_of guest map) start modules ranges) (omega arith)
-        (behind_keeps Shut (ForRoom (memory_of guest map) start modules ranges)
+        (behind_keeps Err (ForRoom (memory_of guest map) start modules ranges)
         (rows_widen start modules ranges (memory_of guest map) (memory_of (guest ++ more) map') more_Room (allowed_longer guest more short) (good' ∙ sym good))
         (λ _. same))
         more longer stays-so
@@ -137,7 +136,7 @@ module _ (map map' : Map) (guest more : List ℕ) (grown : Grows (memory_of gues
   new = memory_of (guest ++ more) map'
 
   -- and so are those of a list that lies in guest memory
-  rows_same : (widths : List ℕ) → length widths ≡ 4 → 0 < row_length widths → (address count : ℕ) → lies old address (count * row_length widths) ≡ true
+  rows_same : (widths : List ℕ) → length widths ≡ 4 → 0 < row_length widths → (address count : ℕ) → room_for old address (count * row_length widths) ≡ true
       → rows_in widths (guest ++ more) address count ≡ rows_in widths guest address count
   unfolding rows_numbers
   rows_same widths four some address zero there = refl
@@ -153,7 +152,7 @@ module _ (map map' : Map) (guest more : List ℕ) (grown : Grows (memory_of gues
     May' = NotInMemory old guest block
 
     list_widen : (widths : List ℕ) → length widths ≡ 4 → 0 < row_length widths → {address address' count count' : ℕ} → address' ≡ address → count' ≡ count
-        → (lies old address (count * row_length widths) ≡ false → StartLies old guest block → ⊥)
+        → (room_for old address (count * row_length widths) ≡ false → StartLies old guest block → ⊥)
         → Widens May' (rows_tests widths old guest address count) (rows_tests widths new (guest ++ more) address' count')
     list_widen widths four some {address} {count = count} ea ec out =
         rw (ea, ec)
@@ -182,21 +181,21 @@ module _ (map map' : Map) (guest more : List ℕ) (grown : Grows (memory_of gues
         (λ _.
         list_widen range_widths refl (omega arith) (as_before 8 ranges_at (omega arith)) (as_before 4 range_count_at (omega arith)) (λ f all. clash all.ranges_lie f)))))))
 
-    module _ {r r' : Gate} (checks : r ≡ check_of map guest block) (short : length (guest ++ more) ≤ longest)
+    module _ {r r' : Check} (checks : r ≡ check_of map guest block) (short : length (guest ++ more) ≤ longest)
         (good' : good_map (length (guest ++ more)) map' ≡ true) (checks' : r' ≡ check_of map' (guest ++ more) block) where
       -- the answer stays, unless it is a 76
-      pub check_grows : good_map (length guest) map ≡ true → (RefusedFor Shut May' r → ⊥) → r' ≡ r
+      pub check_grows : good_map (length guest) map ≡ true → (RefusedFor Err May' r → ⊥) → r' ≡ r
       check_grows good stays-so =
           checks'
           ∙ kept (ShutBy May') (row_keeps May' (check_widens (allowed_longer guest more short) (good' ∙ sym good)))
-          (λ shut. stays-so (subst⁻¹ (RefusedFor Shut May') checks (for_that shut)))
+          (λ shut. stays-so (subst⁻¹ (RefusedFor Err May') checks (for_that shut)))
           ∙ sym checks
         where
-          for_that : {g : Gate} → ShutBy May' g → RefusedFor Shut May' g
+          for_that : {g : Check} → ShutBy May' g → RefusedFor Err May' g
           for_that (shut_by l) = record { refusal = _; lifts = l; is = refl }
 
       -- so an accepted block is accepted, and one of which all lies in guest memory has the same answer
-      pub accepted_grows : r ≡ Open → r' ≡ Open
+      pub accepted_grows : r ≡ pass → r' ≡ pass
       accepted_grows accepted =
           let good = (where_accepted map guest block checks accepted).0.1.0 in
           check_grows good (λ for. let e = sym accepted ∙ for.is in absurd (let w : ◌≡◌ {A = ℕ} 0 1 = cc in omega arith)) ∙ accepted
@@ -205,11 +204,11 @@ module _ (map map' : Map) (guest more : List ℕ) (grown : Grows (memory_of gues
       not_accepted_grows good lie = check_grows good (λ for. for.lifts.out lie)
 
 -- the same of memory made larger in any of the ways
-module _ (map map' : Map) (guest more : List ℕ) (larger : Larger (memory_of guest map) (memory_of (guest ++ more) map')) (block : ℕ) {r r' : Gate}
+module _ (map map' : Map) (guest more : List ℕ) (larger : Larger (memory_of guest map) (memory_of (guest ++ more) map')) (block : ℕ) {r r' : Check}
     (checks : r ≡ check_of map guest block) (short : length (guest ++ more) ≤ longest) (good' : good_map (length (guest ++ more)) map' ≡ true)
     (checks' : r' ≡ check_of map' (guest ++ more) block) where
-  pub accepted_larger : r ≡ Open → r' ≡ Open
+  pub accepted_larger : r ≡ pass → r' ≡ pass
   accepted_larger = accepted_grows map map' guest more (larger_grows larger) block checks short good' checks'
 
-  pub check_larger : good_map (length guest) map ≡ true → (RefusedFor Shut (NotInMemory (memory_of guest map) guest block) r → ⊥) → r' ≡ r
+  pub check_larger : good_map (length guest) map ≡ true → (RefusedFor Err (NotInMemory (memory_of guest map) guest block) r → ⊥) → r' ≡ r
   check_larger = check_grows map map' guest more (larger_grows larger) block checks short good' checks'

@@ -1,4 +1,6 @@
 -- "Nothing else of guest memory changes": a byte of no part is as it was; and no byte in a hole of the map changes, whatever the input.
+use Rattle.answers.specs.Tests.{Check, pass}
+use Rattle.std.specs.Prelude.{Err}
 use Prim.Native.Nat.{ℕ}
 use mathlib.Core.Path.{◌≡◌, ap, ◌∙◌}
 use mathlib.Core.Bool.{false}
@@ -6,8 +8,6 @@ use mathlib.Core.List.{List}
 use native.Mathlib.Omega.{arith}
 use lib.ListN.{length, get_or}
 use lib.Seq.{sets}
-use Rattle.answers.specs.declared.Gate.{Gate}
-use Rattle.answers.specs.declared.Gate.TheVariants.{Open, Shut}
 use Rattle.fields.specs.Ranges.{Among}
 use Rattle.fields.proofs.CopyingLaws.{sets_outside}
 use Rattle.guest.specs.Maps.{ranges_of, in_ranges}
@@ -29,7 +29,7 @@ use Rattle.start_info.proofs.Refusals.{written_where, where_written}
 -- what is written goes into memory
 pub plan_inside : (m : Memory) (start : Start) (modules ranges : List ℕ) → Inside m (plan_of m start modules ranges).stream
 plan_inside m start modules ranges =
-    behind_inside Shut (tests m start modules ranges) (start_plan start modules ranges) m
+    behind_inside Err (tests m start modules ranges) (start_plan start modules ranges) m
     (λ hold.
     inside_append
     (inside_append
@@ -43,9 +43,9 @@ plan_inside m start modules ranges =
 outside : (bytes s : List ℕ) (at n a : ℕ) → length bytes ≡ n → (Among a at n → ⊥) → get_or (sets s at bytes) a 0 ≡ get_or s a 0
 outside bytes s at n a e out = sets_outside bytes s at a (λ low high. out (record { from = low; below = omega arith }))
 
-module _ (start : Start) (modules ranges : List ℕ) (map : Map) (before : List ℕ) {r : Gate} {after : List ℕ}
+module _ (start : Start) (modules ranges : List ℕ) (map : Map) (before : List ℕ) {r : Check} {after : List ℕ}
     (writes : Writes start modules ranges map before r after) where
-  pub only_parts : r ≡ Open → (a : ℕ) → (Among a start.block.0 block_size → ⊥) → (Among a start.modules.0 (list_size module_widths modules) → ⊥)
+  pub only_parts : r ≡ pass → (a : ℕ) → (Among a start.block.0 block_size → ⊥) → (Among a start.modules.0 (list_size module_widths modules) → ⊥)
       → (Among a start.ranges.0 (list_size range_widths ranges) → ⊥) → get_or after a 0 ≡ get_or before a 0
   only_parts e a no_block no-modules no-ranges =
       let hold = where_written start modules ranges map before writes e in

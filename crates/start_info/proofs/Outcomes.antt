@@ -17,7 +17,7 @@ use Rattle.start_info.proofs.read_modules.Reads as read_modules_reads
 use Rattle.start_info.proofs.read_ranges.Kinds as read_ranges_kinds
 use Rattle.start_info.proofs.read_ranges.Reads as read_ranges_reads
 
-pub plan_one : OneOutcome 2 plan_kinds.ps plan_kinds.r plan_reads.Post
+pub plan_one : OneOutcome 3 plan_kinds.ps plan_kinds.r plan_reads.Post
 plan_one κs a z z' ws ws' p q = (meet p q, refl)
 
 pub size_one : OneOutcome 2 size_kinds.ps size_kinds.r size_reads.Post

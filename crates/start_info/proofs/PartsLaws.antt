@@ -6,7 +6,7 @@ use mathlib.Core.List.{List, [], ◌∷◌}
 use native.Mathlib.Omega.{arith}
 use native.Mathlib.Decide.{dec_le}
 use native.Mathlib.Nat.{mul-le-mul_right}
-use borrow.Author.Tests.{eq-eqb, ne_eqb, lt-ltb, le-ltb, leb-true}
+use borrow.Author.Tests.{lt-ltb, le-ltb, leb-true}
 use lib.Dec.{ltb}
 use lib.ListN.{length}
 use lib.Seq.{sets}
@@ -17,24 +17,13 @@ use Rattle.fields.proofs.AreRowsLaws.{rows_whole}
 use Rattle.fields.proofs.HasBytesLaws.{kept_below, kept_above}
 use Rattle.fields.proofs.RowsLaws.{rows_length_lem}
 use Rattle.fields.proofs.WholeRows.{whole_rows}
-use Rattle.guest.specs.Room.{room, Grows}
+use Rattle.guest.specs.Room.{room_for}
 use Rattle.guest.specs.Stream.{stream_at, Inside, none}
 use Rattle.guest.specs.declared.Memory.{Memory}
-use Rattle.guest.proofs.RoomLaws.{room_size}
+use Rattle.guest.proofs.RoomLaws.{room_size, room_for_some}
 use Rattle.guest.proofs.StreamLaws.{inside_at}
 use Rattle.start_info.specs.Kinds.{count_of}
-use Rattle.start_info.specs.Parts.{lies, count_end, list_size}
-
-module _ (m : Memory) (address n : ℕ) where
-  -- a part of no bytes lies anywhere
-  pub none_lies : n ≡ 0 → lies m address n ≡ true
-  unfolding lies
-  none_lies e = rw (eq-eqb n 0 e)
-
-  -- of any other it is asked whether it has room
-  pub some_lies : (n ≡ 0 → ⊥) → lies m address n ≡ room m address n
-  unfolding lies
-  some_lies h = rw (ne_eqb n 0 h)
+use Rattle.start_info.specs.Parts.{count_end, list_size}
 
 -- what is below the clipped count is below it
 pub below_clipped : (n end : ℕ) → ltb (min n end) end ≡ ltb n end
@@ -45,31 +34,21 @@ below_clipped n end = split (dec_le end n)
     split (no h) = lt-ltb (min n end) end (omega arith) ∙ sym (lt-ltb n end (omega arith))
 
 -- rows of some bytes, if there are any, take some
-pub some_bytes : (count size : ℕ) → 0 < count → 0 < size → count * size ≡ 0 → ⊥
-some_bytes count size rows some empty = let least : 1 * size ≤ count * size = mul-le-mul_right size rows in omega arith
+pub some_bytes : (count size : ℕ) → 0 < count → 0 < size → 0 < count * size
+some_bytes count size rows some = let least : 1 * size ≤ count * size = mul-le-mul_right size rows in omega arith
 
 -- ---- a part that lies in memory
 
 -- it ends within the slice, if it has bytes
-pub lies_within : (m : Memory) (address n : ℕ) → 0 < n → lies m address n ≡ true → address + n ≤ m.size
-lies_within m address n some e = room_size m address n (sym (some_lies m address n (λ none. absurd (omega arith))) ∙ e)
-
--- in larger memory it still lies
-pub lies_grows : (m m' : Memory) (address n : ℕ) → Grows m m' → lies m address n ≡ true → lies m' address n ≡ true
-lies_grows m m' address n more e = split (dec_le n 0)
-  where
-    split : Dec (n ≤ 0) → lies m' address n ≡ true
-    split (yes h) = none_lies m' address n (omega arith)
-    split (no h) =
-        let some : n ≡ 0 → ⊥ = λ none. absurd (omega arith) in
-        some_lies m' address n some ∙ more.rooms address n (sym (some_lies m address n some) ∙ e)
+pub lies_within : (m : Memory) (address n : ℕ) → 0 < n → room_for m address n ≡ true → address + n ≤ m.size
+lies_within m address n some e = room_size m address n (sym (room_for_some m address n some) ∙ e)
 
 -- its bytes go into memory
-pub part_inside : (m : Memory) (address n : ℕ) (bytes : List ℕ) → length bytes ≡ n → lies m address n ≡ true → Inside m (stream_at address bytes)
+pub part_inside : (m : Memory) (address n : ℕ) (bytes : List ℕ) → length bytes ≡ n → room_for m address n ≡ true → Inside m (stream_at address bytes)
 unfolding stream_at
 part_inside m address n [] as_long e = none
 part_inside m address n (v ∷ vs) as_long e =
-    inside_at m address n (v ∷ vs) (sym (some_lies m address n (λ zero. absurd (omega arith))) ∙ e) (omega arith)
+    inside_at m address n (v ∷ vs) (sym (room_for_some m address n (omega arith)) ∙ e) (omega arith)
 
 -- ---- two parts that are apart
 

@@ -9,22 +9,20 @@ use native.Mathlib.Nat.{add-zero}
 use borrow.Author.Tests.{eq-eqb}
 use lib.ListN.{length, get_or}
 use lib.Seq.{sets, length-sets}
-use Rattle.answers.specs.Tests.{AllHold}
-use Rattle.answers.specs.declared.Gate.{Gate}
-use Rattle.answers.specs.declared.Gate.TheVariants.{Open}
+use Rattle.answers.specs.Tests.{AllHold, Check, pass}
 use Rattle.answers.proofs.TestsLaws.{all_open}
 use Rattle.fields.specs.Numbers.{le, HasBytes, no_byte}
 use Rattle.fields.specs.Rows.{field_width, rows_numbers, rows_length, row_length, are_rows, RowsFit, fit_none, fit_one}
 use Rattle.fields.proofs.AreRowsLaws.{rows_whole, rows_fit}
 use Rattle.fields.proofs.HasBytesLaws.{stored_at}
 use Rattle.fields.proofs.RowsBack.{rows_back}
-use Rattle.guest.specs.Room.{memory_of}
+use Rattle.guest.specs.Room.{room_for, memory_of}
 use Rattle.guest.specs.declared.Map.{Map}
 use Rattle.guest.specs.declared.Memory.{Memory}
 use Rattle.guest.proofs.LoadingLaws.{load_length}
 use Rattle.start_info.specs.declared.Start.{Start}
 use Rattle.start_info.specs.Kinds.{block_widths, module_widths, range_widths, magic, version, block_fields, block_size, version_at, module_count_at, modules_at, ranges_at, range_count_at, reserved_at, row_fields, count_of, reserved_are_zero}
-use Rattle.start_info.specs.Parts.{lies, count_end, list_size}
+use Rattle.start_info.specs.Parts.{count_end, list_size}
 use Rattle.start_info.specs.Writing.{tests, block_of, plan_of, Writes}
 use Rattle.start_info.specs.Checking.{rows_tests, start_tests, check_tests, check_of}
 use Rattle.start_info.specs.Rule.{FitStart}
@@ -36,7 +34,7 @@ use Rattle.start_info.proofs.Refusals.{written_where, where_written}
 
 -- ---- parts that are stored where they lie
 
-stored_part : (m : Memory) (bytes s : List ℕ) (address n : ℕ) → length bytes ≡ n → lies m address n ≡ true → m.size ≤ length s → HasBytes (sets s address bytes) address bytes
+stored_part : (m : Memory) (bytes s : List ℕ) (address n : ℕ) → length bytes ≡ n → room_for m address n ≡ true → m.size ≤ length s → HasBytes (sets s address bytes) address bytes
 stored_part m [] s address n e there fits = no_byte
 stored_part m (v ∷ vs) s address n e there fits =
     let within = lies_within m address n (omega arith) there in
@@ -69,8 +67,8 @@ as_counted widths rows four are =
     let whole : length rows % 4 ≡ 0 = ap (λ (k : ℕ). length rows % k) (sym four) ∙ rows_whole widths rows are in
     omega arith
 
-module _ (start : Start) (modules ranges : List ℕ) (map : Map) (before : List ℕ) {r : Gate} {after : List ℕ}
-    (writes : Writes start modules ranges map before r after) (written : r ≡ Open) (fit : FitStart start) where
+module _ (start : Start) (modules ranges : List ℕ) (map : Map) (before : List ℕ) {r : Check} {after : List ℕ}
+    (writes : Writes start modules ranges map before r after) (written : r ≡ pass) (fit : FitStart start) where
   abbrev m : Memory
   m = memory_of before map
 
@@ -166,12 +164,12 @@ module _ (start : Start) (modules ranges : List ℕ) (map : Map) (before : List 
 
   -- a list that was written, as the checker sees it
   list_back : (widths rows : List ℕ) {address count : ℕ} (at : ℕ) → address ≡ at → count ≡ count_of rows → length widths ≡ 4 → are_rows widths rows ≡ true
-      → count_of rows < count_end → reserved_are_zero rows ≡ true → lies m at (list_size widths rows) ≡ true
+      → count_of rows < count_end → reserved_are_zero rows ≡ true → room_for m at (list_size widths rows) ≡ true
       → rows_numbers (field_width widths) (length rows) after at 0 ≡ rows → AllHold (rows_tests widths m after address count)
   list_back widths rows at ea ec four are few zeros there back =
       let all : min (count_of rows) count_end ≡ count_of rows = omega arith in
       rw (ea, ec) (
-        ap (λ (k : ℕ). lies m at (k * row_length widths)) (sym all) ∙ there,
+        ap (λ (k : ℕ). room_for m at (k * row_length widths)) (sym all) ∙ there,
         (ap reserved_are_zero (ap (λ (k : ℕ). rows_numbers (field_width widths) k after at 0) (as_counted widths rows four are) ∙ back) ∙ zeros, tt),
       )
 
@@ -203,7 +201,7 @@ module _ (start : Start) (modules ranges : List ℕ) (map : Map) (before : List 
         ),
       )
 
-  pub checked_back : {answer : Gate} → answer ≡ check_of map after start.block.0 → answer ≡ Open
+  pub checked_back : {answer : Check} → answer ≡ check_of map after start.block.0 → answer ≡ pass
   checked_back checks =
       checks
       ∙ all_open (check_tests (memory_of after map) after start.block.0)

@@ -5,11 +5,11 @@ use Rattle.answers.specs.declared.Refusal.{Refusal}
 use Rattle.answers.specs.declared.Refusal.TheVariants.{BadPart}
 use Rattle.fields.specs.Numbers.{le}
 use Rattle.fields.specs.Rows.{field_width, rows_length, row_length}
-use Rattle.guest.specs.Room.{room}
+use Rattle.guest.specs.Room.{room, room_for}
 use Rattle.guest.specs.declared.Memory.{Memory}
 use Rattle.start_info.specs.declared.Start.{Start}
 use Rattle.start_info.specs.Kinds.{module_widths, range_widths, magic, version, block_size, version_at, module_count_at, modules_at, ranges_at, range_count_at, reserved_at, count_of}
-use Rattle.start_info.specs.Parts.{lies, count_end, list_size}
+use Rattle.start_info.specs.Parts.{count_end, list_size}
 
 -- how wide the reserved field of a row is, and where that of the i-th row stands: behind i rows and three fields
 abbrev pub last_width : List ℕ → ℕ
@@ -44,14 +44,14 @@ pub record FitStart (start : Start) : Type 0 where
 
 -- the parts of a writer, and those of a block that is checked, lie in guest memory
 pub record PartsLie (m : Memory) (start : Start) (modules ranges : List ℕ) : Type 0 where
-  pub block_lies : lies m start.block.0 block_size ≡ true
-  pub modules_lie : lies m start.modules.0 (list_size module_widths modules) ≡ true
-  pub ranges_lie : lies m start.ranges.0 (list_size range_widths ranges) ≡ true
+  pub block_lies : room_for m start.block.0 block_size ≡ true
+  pub modules_lie : room_for m start.modules.0 (list_size module_widths modules) ≡ true
+  pub ranges_lie : room_for m start.ranges.0 (list_size range_widths ranges) ≡ true
 
 pub record StartLies (m : Memory) (guest : List ℕ) (block : ℕ) : Type 0 where
-  pub block_lies : lies m block block_size ≡ true
-  pub modules_lie : lies m (le 8 guest (block + modules_at)) (le 4 guest (block + module_count_at) * row_length module_widths) ≡ true
-  pub ranges_lie : lies m (le 8 guest (block + ranges_at)) (le 4 guest (block + range_count_at) * row_length range_widths) ≡ true
+  pub block_lies : room_for m block block_size ≡ true
+  pub modules_lie : room_for m (le 8 guest (block + modules_at)) (le 4 guest (block + module_count_at) * row_length module_widths) ≡ true
+  pub ranges_lie : room_for m (le 8 guest (block + ranges_at)) (le 4 guest (block + range_count_at) * row_length range_widths) ≡ true
 
 -- 76 of a writer because a part does not lie in guest memory, not for 2^32 rows nor for an overlap
 pub record ForRoom (m : Memory) (start : Start) (modules ranges : List ℕ) (refusal : Refusal) : Type 0 where

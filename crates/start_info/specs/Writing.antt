@@ -1,20 +1,18 @@
 -- The start block that is written with its lists, and what writing it answers and leaves.
-use Rattle.std.specs.Prelude.{ℕ, ◌+◌, List, [], ◌∷◌, ◌++◌, ltb}
-use Rattle.answers.specs.Tests.{Test}
+use Rattle.std.specs.Prelude.{ℕ, ◌+◌, List, [], ◌∷◌, ◌++◌, ltb, Err}
+use Rattle.answers.specs.Tests.{Test, Check, pass}
 use Rattle.answers.specs.declared.Refusal.TheVariants.{BadList, BadPart}
-use Rattle.answers.specs.declared.Gate.{Gate}
-use Rattle.answers.specs.declared.Gate.TheVariants.{Open, Shut}
 use Rattle.fields.specs.Ranges.{apart}
 use Rattle.fields.specs.Rows.{field_width, rows_bytes, are_rows}
 use Rattle.guest.specs.Lent.{memory_tests}
 use Rattle.guest.specs.Loading.{Plan, Loads, behind_tests}
-use Rattle.guest.specs.Room.{memory_of}
+use Rattle.guest.specs.Room.{room_for, memory_of}
 use Rattle.guest.specs.Stream.{Poke, stream_at}
 use Rattle.guest.specs.declared.Map.{Map}
 use Rattle.guest.specs.declared.Memory.{Memory}
 use Rattle.start_info.specs.declared.Start.{Start}
 use Rattle.start_info.specs.Kinds.{block_widths, module_widths, range_widths, magic, version, block_size, count_of, reserved_are_zero}
-use Rattle.start_info.specs.Parts.{lies, count_end, list_size}
+use Rattle.start_info.specs.Parts.{count_end, list_size}
 
 -- ---- the tests, in their order
 
@@ -27,9 +25,9 @@ abbrev pub part_tests : Memory → Start → List ℕ → List ℕ → List Test
 part_tests m start modules ranges =
     (ltb (count_of modules) count_end, BadPart)
     ∷ (ltb (count_of ranges) count_end, BadPart)
-    ∷ (lies m start.block.0 block_size, BadPart)
-    ∷ (lies m start.modules.0 (list_size module_widths modules), BadPart)
-    ∷ (lies m start.ranges.0 (list_size range_widths ranges), BadPart)
+    ∷ (room_for m start.block.0 block_size, BadPart)
+    ∷ (room_for m start.modules.0 (list_size module_widths modules), BadPart)
+    ∷ (room_for m start.ranges.0 (list_size range_widths ranges), BadPart)
     ∷ (apart start.block.0 block_size start.modules.0 (list_size module_widths modules), BadPart)
     ∷ (apart start.block.0 block_size start.ranges.0 (list_size range_widths ranges), BadPart)
     ∷ (apart start.modules.0 (list_size module_widths modules) start.ranges.0 (list_size range_widths ranges), BadPart)
@@ -65,18 +63,18 @@ abbrev pub start_size : List ℕ → List ℕ → ℕ
 start_size modules ranges = block_size + list_size module_widths modules + list_size range_widths ranges
 
 -- the block, the modules, the memory map
-abbrev pub start_plan : Start → List ℕ → List ℕ → Plan Gate
+abbrev pub start_plan : Start → List ℕ → List ℕ → Plan Check
 start_plan start modules ranges =
     record {
-      answer = Open;
+      answer = pass;
       stream = stream_of block_widths (block_of start modules ranges) start.block.0
           ++ stream_of module_widths modules start.modules.0
           ++ stream_of range_widths ranges start.ranges.0;
     }
 
-abbrev pub plan_of : Memory → Start → List ℕ → List ℕ → Plan Gate
-plan_of m start modules ranges = behind_tests Shut (tests m start modules ranges) (start_plan start modules ranges)
+abbrev pub plan_of : Memory → Start → List ℕ → List ℕ → Plan Check
+plan_of m start modules ranges = behind_tests Err (tests m start modules ranges) (start_plan start modules ranges)
 
 -- writing into guest memory with a map that held `before`: it answers r and leaves `after`
-abbrev pub Writes : Start → List ℕ → List ℕ → Map → List ℕ → Gate → List ℕ → Type 0
+abbrev pub Writes : Start → List ℕ → List ℕ → Map → List ℕ → Check → List ℕ → Type 0
 Writes start modules ranges map before r after = Loads (plan_of (memory_of before map) start modules ranges) before r after

@@ -1,4 +1,6 @@
-// The kinds of rows, each a list of the widths of its fields; where the fields of the block stand; reserved fields.
+// The kinds of rows, each a list of the widths of its fields; the places of the fields of the block; reserved fields.
+// A list of rows is one list of numbers, as the C function `rekusoyen_start_write` takes it and
+// `fields::rows` writes it.
 ghost use Rattle.std.specs.Prelude.{◌≡◌, ◌+◌, ◌/◌, min};
 ghost use Rattle.fields.specs.Rows.{field_width, rows_numbers};
 ghost use Rattle.start_info.specs.Kinds.{row_fields, reserved_is_zero, reserved_are_zero};
@@ -52,49 +54,37 @@ pub(crate) const COUNT_END: u64 = 0x1_0000_0000;
 pub(crate) fn counted(numbers: usize) -> u64
     ensures { result ≡ min (numbers / row_fields) count_end }
 {
-    let count = (numbers / FIELDS) as u64;
-    if count < COUNT_END { count } else { COUNT_END }
+    ((numbers / FIELDS) as u64).min(COUNT_END)
 }
 
-// Is the i-th number of a list 0 where its field is reserved?
+// Is the i-th number of a list 0, if its field is reserved?
+#[tactic(auto, unfolding(answers::specs::Pick::pick, crate::specs::Kinds::reserved_is_zero))]
 fn is_zero(i: usize, v: u64) -> bool
     ensures { result ≡ reserved_is_zero i v }
 {
-    if i % FIELDS == 3 {
-        return v == 0;
-    }
-    true
+    i % FIELDS != 3 || v == 0
 }
 
 // Are the reserved numbers of a list 0?
 pub(crate) fn are_zero(list: &[u64]) -> bool
     ensures { result ≡ reserved_are_zero list.now }
 {
-    let mut i = 0;
-    while i < list.len() {
-        if !is_zero(i, list[i]) {
-            return false;
-        }
-        i += 1;
-    }
-    true
+    list.iter().enumerate().all(|(i, v)| is_zero(i, *v))
 }
 
-// Are those of n numbers at a guest address 0?
-pub(crate) fn stand_zero(s: &[u8], at: GuestAddress, widths: &[u64], n: u64) -> bool
+// Are those of n numbers at a guest address 0? Not `all`: a number's place is the sum of the widths before it, which
+// the closure would have to carry from turn to turn.
+pub(crate) fn are_zero_at(s: &[u8], at: GuestAddress, widths: &[u64], n: u64) -> bool
     ensures { result ≡ reserved_are_zero (rows_numbers (field_width widths.now) n s.now at.0 0) }
 {
     let end = s.len() as u64;
-    let count = n as usize;
     let mut p = at.0;
-    let mut i = 0;
-    while i < count {
+    for i in 0..n as usize {
         let width = rows::field_width(widths, i);
         if !is_zero(i, numbers::read_le(s, p, width)) {
             return false;
         }
         p = ranges::sum_up_to(end, p, width);
-        i += 1;
     }
     true
 }

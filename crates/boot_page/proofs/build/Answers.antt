@@ -1,13 +1,8 @@
--- `build`: a shut gate leaves the page; behind an open one it is filled.
-use Rattle.boot_page.proofs.BuildingLaws.{builds_shut, builds_open}
+-- `build`: if the tests pass, the page has its size and is filled.
+use Rattle.boot_page.proofs.BuildingLaws.{builds_open}
 use Rattle.boot_page.proofs.build.Goals as goal
 
-pub returns-in-Shut : goal.returns-in-Shut
-returns-in-Shut c =
+pub returns : goal.returns
+returns c =
     let args = c.args in
-    builds_shut args.setup_header.now args.addresses args.rows.now args.page.now c.ask-gate.ensures c.in-Shut.is
-
-pub returns-in-Open : goal.returns-in-Open
-returns-in-Open c =
-    let args = c.args in
-    builds_open args.setup_header.now args.addresses args.rows.now args.page.now c.ask-gate.ensures c.in-Open.is c.fill.ensures
+    builds_open args.setup_header.now args.addresses args.rows.now args.page.now c.check.ensures c.in_ok-check.was c.fill.ensures

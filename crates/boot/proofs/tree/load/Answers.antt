@@ -1,17 +1,24 @@
 -- `tree::load`: by the plan's answer; if it boots, each piece is written by its own call.
+use mathlib.Core.Path.{◌∙◌, ap}
+use lib.ListN.{length}
+use Rattle.std.proofs.lemmas.Result.{err_from_is_err_and}
+use Rattle.guest.specs.declared.Memory.{Memory}
+use Rattle.boot.specs.Tree.{answer_of}
 use Rattle.boot.proofs.TreeLaws.{refused_boots, written_boots}
 use Rattle.boot.proofs.tree.load.Goals as goal
 
-pub returns-in-Refused : goal.returns-in-Refused
-returns-in-Refused c =
+pub returns-in_err-booted : goal.returns-in_err-booted
+returns-in_err-booted c =
     let args = c.args in
-    refused_boots args.image.now args.options args.limit args.text.now args.to args.ramdisk.now
+    let p = err_from_is_err_and c.from_residual.result c.from_residual.ensures.1 in
+    rw (p.1, p.2)
+    (refused_boots args.image.now args.options args.limit args.text.now args.to args.ramdisk.now
     args.tree.now args.map args.guest.now
-    c.plan-answer.ensures c.in-Refused.is
+    (c.plan.ensures ∙ ap (λ (m : Memory). answer_of m args.image.now args.options args.limit args.text.now args.to (length args.ramdisk.now) args.tree.now) c.of-memory.ensures) c.in_err-booted.was)
 
-pub returns-in-Booted : goal.returns-in-Booted
-returns-in-Booted c =
+pub returns : goal.returns
+returns c =
     let args = c.args in
     written_boots args.image.now args.options args.limit args.text.now args.to args.ramdisk.now
     args.tree.now args.map args.guest.now
-    c.plan-answer.ensures c.in-Booted.is c.load.ensures c.copy_image.ensures c.copy_image-in-Booted.ensures
+    (c.plan.ensures ∙ ap (λ (m : Memory). answer_of m args.image.now args.options args.limit args.text.now args.to (length args.ramdisk.now) args.tree.now) c.of-memory.ensures) c.in_ok-booted.was c.load.ensures c.copy_image.ensures c.copy_image-2.ensures

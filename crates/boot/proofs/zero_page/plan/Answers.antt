@@ -1,21 +1,27 @@
--- `zero_page::plan`: the kernel's own plan, then the rows of checks one after the other.
+-- `zero_page::plan`: the kernel's own refusal, that of the checks, or the entry address.
+use mathlib.Core.List.{[]}
+use Rattle.std.proofs.lemmas.Result.{err_from_is_err_and}
+use Rattle.guest.specs.declared.KernelLoaderResult.{KernelLoaderResult}
 use Rattle.cmdline.specs.Writing.{bare}
-use Rattle.boot.proofs.ZeroPageLaws.{refused_answer, checked_answer}
+use Rattle.boot.specs.ZeroPage.{tests, entry}
+use Rattle.boot.proofs.PlanLaws.{answer_kernel, answer_refused, answer_accepted}
 use Rattle.boot.proofs.zero_page.plan.Goals as goal
 
-pub line_size-n-requires : goal.line_size-n-requires
-line_size-n-requires c = c.check_line-gate.ensures.short
-
-pub returns-in-Refused : goal.returns-in-Refused
-returns-in-Refused c =
+pub returns-in_err-kernel : goal.returns-in_err-kernel
+returns-in_err-kernel c =
     let args = c.args in
-    refused_answer args.memory args.image.now args.options args.limit (bare args.boot.now args.init.now) args.to args.ramdisk_len args.rows.now
-    c.plan-kernel.ensures c.in-Refused.is
+    let p = err_from_is_err_and c.from_residual.result c.from_residual.ensures.1 in
+    rw (p.1, p.2)
+    (answer_kernel (tests args.memory.now args.image.now args.options args.limit (bare args.boot.now args.init.now) args.to args.ramdisk_len args.rows.now) (entry args.options args.to) (λ (k : KernelLoaderResult). []) c.plan.ensures c.in_err-kernel.was)
 
-pub returns-in-Loaded : goal.returns-in-Loaded
-returns-in-Loaded c =
+pub returns-in_err-check : goal.returns-in_err-check
+returns-in_err-check c =
     let args = c.args in
-    checked_answer args.memory args.image.now args.options args.limit args.boot.now args.init.now args.to args.ramdisk_len args.rows.now
-    c.plan-kernel.ensures c.in-Loaded.is c.check_entry-gate.ensures c.check-own.ensures c.and_then-gate.ensures c.plan-own.ensures
-    c.and_then-gate-in-Loaded.ensures c.check_ramdisk-gate.ensures c.check_line-gate.ensures.checked c.line_size-n.ensures c.range.ensures
-    c.range-in-Loaded.ensures c.range-in-Loaded-2.ensures c.check-gate.ensures c.entry.ensures c.answer.ensures
+    let p = err_from_is_err_and c.from_residual-in_err-check.result c.from_residual-in_err-check.ensures.1 in
+    rw (p.1, p.2)
+    (answer_refused (tests args.memory.now args.image.now args.options args.limit (bare args.boot.now args.init.now) args.to args.ramdisk_len args.rows.now) (entry args.options args.to) (λ (k : KernelLoaderResult). []) c.plan.ensures c.in_ok-kernel.was c.check.ensures c.in_err-check.was)
+
+pub returns : goal.returns
+returns c =
+    let args = c.args in
+    answer_accepted (tests args.memory.now args.image.now args.options args.limit (bare args.boot.now args.init.now) args.to args.ramdisk_len args.rows.now) (entry args.options args.to) (λ (k : KernelLoaderResult). []) c.plan.ensures c.in_ok-kernel.was c.check.ensures c.in_ok-check.was c.entry-at.ensures

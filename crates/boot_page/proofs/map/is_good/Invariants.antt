@@ -1,13 +1,8 @@
--- `map::is_good`: row i is apart from the d rows nearest before it.
-use Prim.Native.Nat.{◌-◌}
-use mathlib.Core.Path.{◌≡◌}
-use mathlib.Core.Bool.{true}
+-- `map::is_good`: the rows before j are what is left to test.
+use Rattle.std.proofs.Common.{◌≡◌, ◌≤◌}
 use Rattle.fields.specs.Every.{every}
-use Rattle.boot_page.proofs.MapLaws.{nearest}
+use Rattle.boot_page.specs.Map.{rows_apart}
 use Rattle.boot_page.proofs.map.is_good.Given as goal
 
-abbrev pub invariant-loop-d : goal.invariant-loop-d
-invariant-loop-d l = every (nearest l.rows l.i) l.d ≡ true
-
-abbrev pub decreases-loop-d : goal.decreases-loop-d
-decreases-loop-d l = l.i - l.d
+abbrev pub invariant-loop-j : goal.invariant-loop-j
+invariant-loop-j l = (l.j ≤ l.i) × (every (rows_apart l.rows l.i) l.i ≡ every (rows_apart l.rows l.i) l.j)

@@ -5,4 +5,4 @@ use Rattle.bzimage.proofs.HeaderLaws.{read_over}
 use Rattle.boot_page.proofs.reading.setup_header.Goals as goal
 
 pub returns : goal.returns
-returns c = c.copy.ensures ∙ read_over header_size header_start c.args.page.now c.lesser-from.ensures
+returns c = c.copy.ensures ∙ read_over header_size header_start c.args.page.now c.min-from.ensures
