@@ -1,5 +1,7 @@
 -- "Copied one after the other, the parts leave guest memory as the load does", with the numbers as `rekusoyen_raw_part` reports them: a part of no bytes, all
 -- of whose numbers are 0, is copied as it would be with its own.
+use Rattle.std.specs.Prelude.{Ok}
+use Rattle.guest.specs.Answers.{Answer}
 use Prim.Native.Nat.{ℕ}
 use mathlib.Core.Path.{◌≡◌, refl, ◌∙◌}
 use mathlib.Core.List.{List}
@@ -7,8 +9,6 @@ use borrow.Author.Tests.{eqb-true}
 use lib.Dec.{eqb}
 use Rattle.answers.proofs.PickLaws.{pick_with}
 use Rattle.guest.specs.Room.{memory_of}
-use Rattle.guest.specs.declared.Answer.{Answer}
-use Rattle.guest.specs.declared.Answer.TheVariants.{Loaded}
 use Rattle.guest.specs.declared.KernelLoaderResult.{KernelLoaderResult}
 use Rattle.guest.specs.declared.Map.{Map}
 use Rattle.guest.specs.declared.Part.{Part}
@@ -25,7 +25,7 @@ reported_copied image p g =
     pick_with (λ (q : Part). copied image p g ≡ copied image q g) (eqb p.size 0) (λ e. rw (eqb-true p.size 0 e) refl) (λ _. refl)
 
 pub reported_parts : (image : List ℕ) (o : Options) (map : Map) (before after : List ℕ) {r : Answer} {k : KernelLoaderResult}
-    → LoadSays image o map before r after → r ≡ Loaded k
+    → LoadSays image o map before r after → r ≡ Ok k
     → after ≡ copied_from (count_of image o) image (λ i. with_bytes (tested_part image (memory_of before map) o i)) 0 before
 reported_parts image o map before after says is =
     let part = tested_part image (memory_of before map) o in

@@ -1,25 +1,38 @@
 -- Laws of a load's state in numbers: lists written and read, and what is kept read back.
-use Prim.Native.Nat.{ℕ, zero, suc, ◌≤◌, ◌<◌}
-use mathlib.Core.Path.{◌≡◌, refl, sym, ap}
+use Prim.Native.Nat.{ℕ, zero, suc, ◌+◌, ◌-◌, ◌≤◌, ◌<◌, min}
+use mathlib.Core.Path.{◌≡◌, refl, sym, ap, ◌∙◌}
 use mathlib.Core.List.{List}
 use native.Mathlib.Omega.{arith}
-use lib.ListN.{length, get_or, set, drop, replicate, length-drop}
-use lib.Seq.{sets, drop-cons}
-use Rattle.fields.proofs.CopyingLaws.{sets_out, sets_none, sets_whole}
+use borrow.Rule.Slice.PartMut.{put_mid}
+use lib.ListN.{length, get_or, set, take, drop, replicate, length-take, length-drop, take-append-drop}
+use native.Mathlib.Decide.{dec_le}
+use lib.Seq.{sets, sets-eq, length-sets, drop-drop}
+use Rattle.std.proofs.Common.{append_assoc}
+use Rattle.fields.proofs.CopyingLaws.{sets_out, sets_none, sets_append, sets_clipped, sets_whole}
 use Rattle.capi.specs.Saved.{numbers_from}
 
 -- ---- `put`
 
--- past the list's end nothing more is written
-pub put_full : (vs l : List ℕ) (i p : ℕ) → length l ≤ p → sets l p (drop i vs) ≡ l
-put_full vs l i p h = sets_out (drop i vs) l p h
+-- nothing is left to be stored, or there is no room for it
+put_done : (vs l : List ℕ) (p k : ℕ) → (k < length vs → length l ≤ p) → sets l p (drop k vs) ≡ l
+put_done vs l p k full = split (dec_le (length vs) k)
+  where
+    split : Dec (length vs ≤ k) → sets l p (drop k vs) ≡ l
+    split (yes h) = sets_none (drop k vs) l p (omega (arith, length-drop k vs))
+    split (no more) = sets_out (drop k vs) l p (full (omega arith))
 
--- nothing is left to be written
-pub put_all : (vs l : List ℕ) (i p : ℕ) → length vs ≤ i → sets l p (drop i vs) ≡ l
-put_all vs l i p h = let left = length-drop i vs in sets_none (drop i vs) l p (omega arith)
-
-pub put_next : (vs l : List ℕ) (i p : ℕ) {j q : ℕ} → j ≡ suc i → q ≡ suc p → i < length vs → sets (set l p (get_or vs i 0)) q (drop j vs) ≡ sets l p (drop i vs)
-put_next vs l i p ej eq h = rw (ej, eq, drop-cons vs i 0 h)
+-- as many values as fit, put at an index that is clipped to the end
+pub put_values : (vs l part : List ℕ) (n k at : ℕ) → n ≡ min at (length l) → k ≡ min (length vs) (length l - n) → part ≡ take k vs
+    → put_mid n k l part ≡ sets l at vs
+put_values vs l part n k at en ek ep =
+    let long : length (take k vs) ≡ k = omega (arith, length-take k vs) in
+    let rest : sets (sets l n (take k vs)) (n + k) (drop k vs) ≡ sets l n (take k vs) =
+    put_done vs (sets l n (take k vs)) (n + k) k (λ more. rw (length-sets l n (take k vs)) (omega arith)) in
+    let block = take k vs in
+    let direct : put_mid n k l block ≡ sets l n block =
+    rw (sets-eq block l n (rw long (omega arith)), long, drop-drop k n l, append_assoc (take n l) block (drop (n + k) l)) in
+    ap (put_mid n k l) ep ∙ direct ∙ sym rest ∙ sym (sets_append block (drop k vs) l n (n + k) (rw long)) ∙ ap (sets l n) (take-append-drop k vs)
+    ∙ sets_clipped vs l at n en
 
 -- ---- `sixteen`
 

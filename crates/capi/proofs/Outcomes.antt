@@ -20,8 +20,12 @@ use Rattle.capi.proofs.options.ask_format.Kinds as ask_format_kinds
 use Rattle.capi.proofs.options.ask_format.Reads as ask_format_reads
 use Rattle.capi.proofs.options.options_of.Kinds as options_of_kinds
 use Rattle.capi.proofs.options.options_of.Reads as options_of_reads
+use Rattle.capi.proofs.options.of_call.Kinds as of_call_kinds
+use Rattle.capi.proofs.options.of_call.Reads as of_call_reads
 use Rattle.capi.proofs.places.put.Kinds as put_kinds
 use Rattle.capi.proofs.places.put.Reads as put_reads
+use Rattle.capi.proofs.results.check_number.Kinds as check_number_kinds
+use Rattle.capi.proofs.results.check_number.Reads as check_number_reads
 use Rattle.capi.proofs.results.kernel_numbers.Kinds as kernel_numbers_kinds
 use Rattle.capi.proofs.results.kernel_numbers.Reads as kernel_numbers_reads
 use Rattle.capi.proofs.steps.rekusoyen_raw_begin.Kinds as begin_kinds
@@ -74,8 +78,14 @@ ask_format_one κs a z z' ws ws' p q = (meet p q, refl)
 pub options_of_one : OneOutcome 0 options_of_kinds.ps options_of_kinds.r options_of_reads.Post
 options_of_one κs a z z' ws ws' p q = (meet p q, refl)
 
+pub of_call_one : OneOutcome 0 of_call_kinds.ps of_call_kinds.r of_call_reads.Post
+of_call_one κs a z z' ws ws' p q = (meet p q, refl)
+
 pub kernel_numbers_one : OneOutcome 0 kernel_numbers_kinds.ps kernel_numbers_kinds.r kernel_numbers_reads.Post
 kernel_numbers_one κs a z z' ws ws' p q = (meet p q, refl)
 
 pub put_one : OneOutcome 2 put_kinds.ps put_kinds.r put_reads.Post
 put_one κs a z z' ws ws' p q = (refl, first (meet p q))
+
+pub check_number_one : OneOutcome 0 check_number_kinds.ps check_number_kinds.r check_number_reads.Post
+check_number_one κs a z z' ws ws' p q = (meet p q, refl)

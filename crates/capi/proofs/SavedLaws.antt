@@ -1,4 +1,6 @@
 -- What is kept between two steps, written and read back: a list that holds it, with other numbers after it.
+use Rattle.std.specs.Prelude.{Some, None, Option}
+use Rattle.guest.specs.declared.GuestAddress.{GuestAddress}
 use Prim.Native.Nat.{ℕ, zero, suc, ◌+◌}
 use mathlib.Core.Path.{◌≡◌, refl, sym, ap, ◌∙◌}
 use mathlib.Core.Bool.{true}
@@ -12,8 +14,6 @@ use Rattle.answers.specs.Tests.{AllHold}
 use Rattle.guest.specs.Addresses.{amount_of}
 use Rattle.guest.specs.Maps.{every_second, map_of}
 use Rattle.guest.specs.Room.{memory_of}
-use Rattle.guest.specs.declared.Given.{Given}
-use Rattle.guest.specs.declared.Given.TheVariants.{Nothing, At}
 use Rattle.guest.specs.declared.Memory.{Memory}
 use Rattle.loads.specs.declared.Stage.{Stage}
 use Rattle.loads.specs.declared.Stage.TheVariants.{Fresh, Copying, Done}
@@ -31,10 +31,10 @@ stage_back Fresh = refl
 stage_back Copying = refl
 stage_back Done = refl
 
-given_back : (g : Given) → given_by (given_code g) (amount_of g) ≡ g
+given_back : (g : Option GuestAddress) → given_by (given_code g) (amount_of g) ≡ g
 unfolding given_by given_code amount_of pick
-given_back Nothing = refl
-given_back (At a) = refl
+given_back None = refl
+given_back (Some a) = refl
 
 stage_passes : (s : Stage) → leb (stage_code s) 2 ≡ true
 unfolding stage_code
@@ -42,10 +42,10 @@ stage_passes Fresh = refl
 stage_passes Copying = refl
 stage_passes Done = refl
 
-given_passes : (g : Given) → leb (given_code g) 1 ≡ true
+given_passes : (g : Option GuestAddress) → leb (given_code g) 1 ≡ true
 unfolding given_code
-given_passes Nothing = refl
-given_passes (At a) = refl
+given_passes None = refl
+given_passes (Some a) = refl
 
 -- ---- a list written
 

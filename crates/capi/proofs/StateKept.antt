@@ -1,5 +1,6 @@
 -- The state of a load that an entry point writes is the state that the next one reads: calls through the entry points, one after the other, are the steps
 -- of `loads`.
+use Rattle.std.specs.Prelude.{Ok, Err, is_ok}
 use Prim.Native.Nat.{ℕ, ◌+◌}
 use mathlib.Core.Path.{◌≡◌, refl, sym, ap, subst, ◌∙◌}
 use mathlib.Core.Bool.{true}
@@ -9,18 +10,14 @@ use lib.Dec.{leb, eqb}
 use lib.ListN.{length, get_or}
 use borrow.Author.Tests.{eq-eqb}
 use Rattle.answers.specs.Pick.{pick}
-use Rattle.answers.specs.Tests.{asked_all, AllHold}
-use Rattle.answers.specs.declared.Gate.{Gate}
-use Rattle.answers.specs.declared.Gate.TheVariants.{Open, Shut}
+use Rattle.answers.specs.Tests.{asked_all, AllHold, Check, pass}
 use Rattle.answers.specs.declared.Refusal.TheVariants.{BadList, NoRoom}
 use Rattle.answers.proofs.PickLaws.{pick_with}
 use Rattle.answers.proofs.TestsLaws.{all_open, hold_append}
-use Rattle.guest.specs.Answers.{is_loaded, pvh_code, pvh_address, pvh_place, pvh_size}
+use Rattle.guest.specs.Answers.{pvh_code, pvh_address, pvh_place, pvh_size, Answer}
 use Rattle.guest.specs.Loading.{Plan}
 use Rattle.guest.specs.Maps.{map_of}
 use Rattle.guest.specs.Room.{memory_of}
-use Rattle.guest.specs.declared.Answer.{Answer}
-use Rattle.guest.specs.declared.Answer.TheVariants.{Loaded, Refused}
 use Rattle.guest.specs.declared.Portion.{Portion}
 use Rattle.guest.specs.declared.PvhBootCapability.{PvhBootCapability}
 use Rattle.guest.specs.declared.PvhBootCapability.TheVariants.{PvhEntryPresent, PvhEntryNotPresent, PvhEntryIgnored}
@@ -56,8 +53,8 @@ pvh_back PvhEntryIgnored = refl
 
 answer_length : (a : Answer) → length (answer_numbers a) ≡ 7
 unfolding answer_numbers
-answer_length (Loaded result) = refl
-answer_length (Refused r) = refl
+answer_length (Ok result) = refl
+answer_length (Err r) = refl
 
 -- the answer that seven numbers are
 abbrev answer_at : List ℕ → Answer
@@ -65,11 +62,11 @@ answer_at l = answer_from (get_or l 0 0) (get_or l 1 0) (get_or l 2 0) (pvh_of (
 
 answer_back : (a : Answer) → answer_at (answer_numbers a) ≡ a
 unfolding answer_numbers answer_from pick
-answer_back (Loaded result) =
+answer_back (Ok result) =
     ap
-    (λ (p : PvhBootCapability). Loaded (record { kernel_load = result.kernel_load; kernel_end = result.kernel_end; pvh_boot_cap = p }))
+    (λ (p : PvhBootCapability). Ok (record { kernel_load = result.kernel_load; kernel_end = result.kernel_end; pvh_boot_cap = p }))
     (pvh_back result.pvh_boot_cap)
-answer_back (Refused r) = rw (not_zero r) (ap Refused (refusal_back r))
+answer_back (Err r) = rw (not_zero r) (ap Err (refusal_back r))
 
 -- ---- each number passes its test
 
@@ -81,13 +78,13 @@ pvh_passes PvhEntryIgnored = refl
 
 code_passes : (a : Answer) → leb (get_or (answer_numbers a) 3 0) 2 ≡ true
 unfolding answer_numbers
-code_passes (Loaded result) = pvh_passes result.pvh_boot_cap
-code_passes (Refused r) = refl
+code_passes (Ok result) = pvh_passes result.pvh_boot_cap
+code_passes (Err r) = refl
 
 number_passes : (a : Answer) → is_known (get_or (answer_numbers a) 0 0) ≡ true
 unfolding answer_numbers
-number_passes (Loaded result) = zero_known
-number_passes (Refused r) = refusal_known r
+number_passes (Ok result) = zero_known
+number_passes (Err r) = refusal_known r
 
 format_back : (f : Format) → format_of (format_code f) ≡ f
 unfolding format_of format_code pick
@@ -169,29 +166,29 @@ module _ (numbers : List ℕ) (is : Saves (state_in numbers) numbers) (image gue
   unfolding first_step begun_with
   stage_kept Fresh b =
       let started = started_state image (memory_of guest (map_of map)) (state_in numbers).options in
-      pick_with (λ (x : Plan Stepped). Kept_after x.answer) (is_loaded (answer_of image (memory_of guest (map_of map)) (state_in numbers).options))
+      pick_with (λ (x : Plan Stepped). Kept_after x.answer) (is_ok (answer_of image (memory_of guest (map_of map)) (state_in numbers).options))
       (λ _. went_kept started _ (map_sixteen guest map)) (λ _. answered_kept started started.answer (map_sixteen guest map))
   stage_kept Copying b = went_kept (state_in numbers) _ (kept_sixteen numbers)
   stage_kept Done b = answered_kept (state_in numbers) (state_in numbers).answer (kept_sixteen numbers)
 
   plan_kept : (b : ℕ) → Kept_after (plan_in image numbers b (map_of map) guest).answer
   unfolding step_plan
-  plan_kept b = by (asked_all Open (step_tests (state_in numbers).progress (length image) (memory_of guest (map_of map)) b))
+  plan_kept b = by (asked_all pass (step_tests (state_in numbers).progress (length image) (memory_of guest (map_of map)) b))
     where
-      by : (g : Gate)
+      by : (g : Check)
           → Kept_after (if_open g (state_in numbers) (by_stage (state_in numbers).progress.stage image (memory_of guest (map_of map)) (state_in numbers) b)).answer
-      by Open = stage_kept (state_in numbers).progress.stage b
-      by (Shut r) = is
+      by (Ok _) = stage_kept (state_in numbers).progress.stage b
+      by (Err r) = is
 
 -- ---- the entry points
 
 -- what `rekusoyen_raw_begin` writes holds the new load
-pub begin_kept : (o : Options) (numbers : List ℕ) {r : ℕ} {left : List ℕ} → length numbers ≡ state_size → BeginCall Open o numbers r left → Saves (fresh_state o) left
+pub begin_kept : (o : Options) (numbers : List ℕ) {r : ℕ} {left : List ℕ} → length numbers ≡ state_size → BeginCall pass o numbers r left → Saves (fresh_state o) left
 begin_kept o numbers size begins =
     subst (Saves (fresh_state o)) (sym begins.state) (written (fresh_state o) numbers size (record { starts = refl; sizes = refl }))
 
 -- a call over a list that holds a state passes the tests of its lists
-pub call_open : {st : State} (numbers out : List ℕ) → Saves st numbers → length out ≡ 9 → step_gate numbers out ≡ Open
+pub call_open : {st : State} (numbers out : List ℕ) → Saves st numbers → length out ≡ 9 → step_gate numbers out ≡ pass
 unfolding step_gate
 call_open numbers out is nine =
     all_open ((eqb (length numbers) state_size, NoRoom) ∷ (eqb (length out) 9, NoRoom) ∷ state_tests numbers)
@@ -203,8 +200,8 @@ pub step_kept : {st : State} (image map guest numbers out : List ℕ) (budget : 
     → StepsFrom st image (map_of map) budget guest out r guest-left left out-left
 step_kept image map guest numbers out budget {r} {guest-left} {left} {out-left} is nine said =
     let plan = plan_in image numbers budget (map_of map) guest in
-    let calls : StepCall Open image (map_of map) budget guest numbers out r guest-left left out-left =
-    subst (λ (g : Gate). StepCall g image (map_of map) budget guest numbers out r guest-left left out-left) (call_open numbers out is nine) said in
+    let calls : StepCall pass image (map_of map) budget guest numbers out r guest-left left out-left =
+    subst (λ (g : Check). StepCall g image (map_of map) budget guest numbers out r guest-left left out-left) (call_open numbers out is nine) said in
     let same : Saves (state_in numbers) numbers = record { size = is.size; good = is.good; held = refl } in
     let from : StepsFrom (state_in numbers) image (map_of map) budget guest out r guest-left left out-left =
     record {

@@ -1,17 +1,16 @@
 -- The options of a load, as numbers.
-use Rattle.std.specs.Prelude.{ℕ, ◌/◌, ◌%◌, List, [], ◌∷◌, eqb, leb}
+use Rattle.guest.specs.declared.GuestAddress.{GuestAddress}
+use Rattle.std.specs.Prelude.{ℕ, ◌/◌, ◌%◌, List, [], ◌∷◌, eqb, leb, Some, None, Option}
 use Rattle.answers.specs.Pick.{pick}
 use Rattle.answers.specs.Tests.{Test}
 use Rattle.answers.specs.declared.Refusal.TheVariants.{BadList}
-use Rattle.guest.specs.declared.Given.{Given}
-use Rattle.guest.specs.declared.Given.TheVariants.{Nothing, At}
 use Rattle.loads.specs.declared.Format.{Format}
 use Rattle.loads.specs.declared.Format.TheVariants.{Elf, BzImage, Arm64}
 use Rattle.loads.specs.declared.Options.{Options}
 
 -- an address, given if its bit is 1
-unfoldable pub given_by : ℕ → ℕ → Given
-given_by bit address = pick (eqb bit 1) (At (record { 0 = address })) Nothing
+unfoldable pub given_by : ℕ → ℕ → Option GuestAddress
+given_by bit address = pick (eqb bit 1) (Some (record { 0 = address })) None
 
 -- a format by its number
 unfoldable pub format_code : Format → ℕ

@@ -1,16 +1,14 @@
 -- The numbers of a plan and of a part.
-use Rattle.std.specs.Prelude.{ℕ, List, [], ◌∷◌, ◌++◌, eqb}
+use Rattle.std.specs.Prelude.{ℕ, List, [], ◌∷◌, ◌++◌, eqb, Ok, Err}
 use Rattle.answers.specs.Pick.{pick}
-use Rattle.guest.specs.Answers.{answer_values}
+use Rattle.guest.specs.Answers.{answer_values, Answer}
 use Rattle.guest.specs.Parts.{no_part}
-use Rattle.guest.specs.declared.Answer.{Answer}
-use Rattle.guest.specs.declared.Answer.TheVariants.{Loaded, Refused}
 use Rattle.guest.specs.declared.Part.{Part}
 
 -- the values of a load, and the number of its parts; a refusal has none
 unfoldable pub plan_values : Answer → ℕ → List ℕ
-plan_values (Loaded k) parts = answer_values (Loaded k) ++ (parts ∷ [])
-plan_values (Refused r) parts = []
+plan_values (Ok k) parts = answer_values (Ok k) ++ (parts ∷ [])
+plan_values (Err r) parts = []
 
 -- a part that has bytes; of one that has none all numbers are 0
 unfoldable pub with_bytes : Part → Part

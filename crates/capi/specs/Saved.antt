@@ -1,12 +1,11 @@
 -- A load between two steps, in a list of numbers: how far it is. Its format and its answer come after it.
-use Rattle.std.specs.Prelude.{ℕ, zero, suc, List, [], ◌∷◌, eqb, leb, get_or}
+use Rattle.guest.specs.declared.GuestAddress.{GuestAddress}
+use Rattle.std.specs.Prelude.{ℕ, zero, suc, List, [], ◌∷◌, eqb, leb, get_or, Some, None, Option}
 use Rattle.std.proofs.lemmas.List.Edits.{sets}
 use Rattle.answers.specs.Pick.{pick}
 use Rattle.answers.specs.Tests.{Test}
 use Rattle.answers.specs.declared.Refusal.TheVariants.{BadList}
 use Rattle.guest.specs.Addresses.{amount_of}
-use Rattle.guest.specs.declared.Given.{Given}
-use Rattle.guest.specs.declared.Given.TheVariants.{Nothing, At}
 use Rattle.guest.specs.declared.Map.{Map}
 use Rattle.loads.specs.declared.Stage.{Stage}
 use Rattle.loads.specs.declared.Stage.TheVariants.{Fresh, Copying, Done}
@@ -28,9 +27,9 @@ unfoldable pub stage_of : ℕ → Stage
 stage_of n = pick (eqb n 0) Fresh (pick (eqb n 1) Copying Done)
 
 -- 1 if an address is given, else 0
-unfoldable pub given_code : Given → ℕ
-given_code Nothing = 0
-given_code (At a) = 1
+unfoldable pub given_code : Option GuestAddress → ℕ
+given_code None = 0
+given_code (Some a) = 1
 
 -- ---- what is kept: ten numbers, then 16 starts and 16 sizes of the first step's map
 

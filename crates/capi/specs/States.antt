@@ -1,17 +1,14 @@
 -- A load in steps through the entry points: its state in a list of numbers, and what the entry points answer and leave.
-use Rattle.std.specs.Prelude.{ℕ, ◌≡◌, List, [], ◌∷◌, ◌++◌, eqb, leb, length, get_or}
+use Rattle.guest.specs.Answers.{Answer}
+use Rattle.std.specs.Prelude.{ℕ, ◌≡◌, List, [], ◌∷◌, ◌++◌, eqb, leb, length, get_or, Ok, Err}
 use Rattle.std.proofs.lemmas.List.Edits.{sets}
 use Rattle.answers.specs.Pick.{pick}
 use Rattle.answers.specs.Catalogue.{number_of}
-use Rattle.answers.specs.Tests.{Test, asked_all}
-use Rattle.answers.specs.declared.Gate.{Gate}
-use Rattle.answers.specs.declared.Gate.TheVariants.{Open}
+use Rattle.answers.specs.Tests.{Test, asked_all, Check, pass}
 use Rattle.answers.specs.declared.Refusal.TheVariants.{NoRoom, BadList}
 use Rattle.guest.specs.Loading.{Plan}
 use Rattle.guest.specs.Room.{memory_of}
 use Rattle.guest.specs.Stream.{pour}
-use Rattle.guest.specs.declared.Answer.{Answer}
-use Rattle.guest.specs.declared.Answer.TheVariants.{Loaded, Refused}
 use Rattle.guest.specs.declared.Map.{Map}
 use Rattle.guest.specs.declared.PvhBootCapability.{PvhBootCapability}
 use Rattle.guest.specs.declared.PvhBootCapability.TheVariants.{PvhEntryPresent, PvhEntryNotPresent, PvhEntryIgnored}
@@ -31,8 +28,8 @@ use Rattle.capi.specs.declared.progress.Kept.{Kept}
 
 -- its number, and the values of an accepted load; 0 with a refusal
 unfoldable pub answer_numbers : Answer → List ℕ
-answer_numbers (Loaded result) = 0 ∷ kernel_numbers result
-answer_numbers (Refused r) = number_of r ∷ 0 ∷ 0 ∷ 0 ∷ 0 ∷ 0 ∷ 0 ∷ []
+answer_numbers (Ok result) = 0 ∷ kernel_numbers result
+answer_numbers (Err r) = number_of r ∷ 0 ∷ 0 ∷ 0 ∷ 0 ∷ 0 ∷ 0 ∷ []
 
 unfoldable pub pvh_of : ℕ → ℕ → ℕ → ℕ → PvhBootCapability
 pvh_of code address place size =
@@ -41,7 +38,7 @@ pvh_of code address place size =
 
 unfoldable pub answer_from : ℕ → ℕ → ℕ → PvhBootCapability → Answer
 answer_from number load end said =
-    pick (eqb number 0) (Loaded (record { kernel_load = record { 0 = load }; kernel_end = record { 0 = end }; pvh_boot_cap = said })) (Refused (refusal_of number))
+    pick (eqb number 0) (Ok (record { kernel_load = record { 0 = load }; kernel_end = record { 0 = end }; pvh_boot_cap = said })) (Err (refusal_of number))
 
 abbrev pub answer_in : List ℕ → Answer
 answer_in numbers =
@@ -75,22 +72,25 @@ state_from k format a =
 abbrev pub state_in : List ℕ → State
 state_in numbers = state_from (kept_in numbers) (get_or numbers 42 0) (answer_in numbers)
 
+-- what no answer is written as: PVH, or an answer's number, that stands for none
+abbrev pub answer_tests : List ℕ → List Test
+answer_tests numbers = (leb (get_or numbers 46 0) 2, BadList) ∷ (is_known (get_or numbers 43 0), BadList) ∷ []
+
 -- a list that no state is written as: a stage, an option, a format, PVH or an answer's number that stands for none
 abbrev pub state_tests : List ℕ → List Test
-state_tests numbers =
-    kept_tests numbers ++ (format_tests (get_or numbers 42 0) ++ ((leb (get_or numbers 46 0) 2, BadList) ∷ (is_known (get_or numbers 43 0), BadList) ∷ []))
+state_tests numbers = kept_tests numbers ++ (format_tests (get_or numbers 42 0) ++ answer_tests numbers)
 
 -- ---- starting
 
-pub record BeginCall (gate : Gate) (o : Options) (numbers : List ℕ) (r : ℕ) (left : List ℕ) : Type 0 where
+pub record BeginCall (gate : Check) (o : Options) (numbers : List ℕ) (r : ℕ) (left : List ℕ) : Type 0 where
   pub answer : r ≡ number_behind gate 0
   pub state : left ≡ left_behind gate (with_state (fresh_state o) numbers) numbers
 
 -- ---- a step
 
 -- the sizes of the lists, then whether the numbers are a state
-unfoldable pub step_gate : List ℕ → List ℕ → Gate
-step_gate numbers out = asked_all Open ((eqb (length numbers) state_size, NoRoom) ∷ (eqb (length out) 9, NoRoom) ∷ state_tests numbers)
+unfoldable pub step_gate : List ℕ → List ℕ → Check
+step_gate numbers out = asked_all pass ((eqb (length numbers) state_size, NoRoom) ∷ (eqb (length out) 9, NoRoom) ∷ state_tests numbers)
 
 -- what the step does that the numbers' state takes
 abbrev pub plan_in : List ℕ → List ℕ → ℕ → Map → List ℕ → Plan Stepped
@@ -120,7 +120,7 @@ pub record StepTells (stepped : Stepped) (numbers out : List ℕ) (r : ℕ) (lef
   pub state : left ≡ state_after stepped.reply stepped.state numbers
   pub told : out-left ≡ sets out 0 (told_numbers stepped.copied stepped.reply)
 
-pub record StepCall (gate : Gate) (image : List ℕ) (map : Map) (budget : ℕ) (guest numbers out : List ℕ) (r : ℕ) (guest-left left out-left : List ℕ) : Type 0 where
+pub record StepCall (gate : Check) (image : List ℕ) (map : Map) (budget : ℕ) (guest numbers out : List ℕ) (r : ℕ) (guest-left left out-left : List ℕ) : Type 0 where
   pub answer : r ≡ number_behind gate (reply_number (plan_in image numbers budget map guest).answer.reply)
   pub memory : guest-left ≡ left_behind gate (pour (plan_in image numbers budget map guest).stream guest) guest
   pub state :

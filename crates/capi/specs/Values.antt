@@ -1,10 +1,9 @@
 -- What an entry point stores in the caller's lists, and what it comes to by the tests of a call.
-use Rattle.std.specs.Prelude.{ℕ, ◌≡◌, Bool, List, [], ◌∷◌}
+use Rattle.answers.specs.Tests.{Check}
+use Rattle.std.specs.Prelude.{ℕ, ◌≡◌, Bool, List, [], ◌∷◌, Ok, Err}
 use Rattle.std.proofs.lemmas.List.Edits.{sets}
 use Rattle.answers.specs.Pick.{pick}
 use Rattle.answers.specs.Catalogue.{number_of}
-use Rattle.answers.specs.declared.Gate.{Gate}
-use Rattle.answers.specs.declared.Gate.TheVariants.{Open, Shut}
 use Rattle.answers.specs.declared.Refusal.TheVariants.{NoRoom}
 use Rattle.guest.specs.Answers.{pvh_code, pvh_address, pvh_place, pvh_size}
 use Rattle.guest.specs.declared.KernelLoaderResult.{KernelLoaderResult}
@@ -21,13 +20,13 @@ pub record Tells (number : ℕ) (values out : List ℕ) (r : ℕ) (left : List �
   pub told : left ≡ sets out 0 values
 
 -- by how the tests of a call end: what is answered and left if they hold, else the refusal's number and what was there
-abbrev pub number_behind : Gate → ℕ → ℕ
-number_behind Open number = number
-number_behind (Shut refusal) number = number_of refusal
+abbrev pub number_behind : Check → ℕ → ℕ
+number_behind (Ok _) number = number
+number_behind (Err refusal) number = number_of refusal
 
-abbrev pub left_behind : Gate → List ℕ → List ℕ → List ℕ
-left_behind Open left was = left
-left_behind (Shut refusal) left was = was
+abbrev pub left_behind : Check → List ℕ → List ℕ → List ℕ
+left_behind (Ok _) left was = left
+left_behind (Err refusal) left was = was
 
 -- the same of a call whose one test is that a list has its size
 abbrev pub number_where : Bool → ℕ → ℕ

@@ -1,16 +1,18 @@
-// Loads, plans and parts of every format, what an image is, and the setup header of a bzImage.
+// Loads, plans and parts of every format, what an image is, and the setup header of a bzImage. Parameters that travel
+// together and lists of rows are those of the C functions.
 ghost use Rattle.std.specs.Prelude.{◌≡◌};
+ghost use Rattle.answers.specs.Tests.{pass, asked_all};
 ghost use Rattle.guest.specs.Maps.{map_of};
 ghost use Rattle.loads.specs.Kinds.{kind_of};
-ghost use Rattle.capi.specs.Loads.{call_gate, header_gate, LoadCall, PlanCall, PartCall, HeaderCall, kind_number, memory_by};
+ghost use Rattle.capi.specs.Loads.{call_gate, header_tests, header_gate, kind_number, memory_by};
+ghost use Rattle.capi.specs.Loads.{LoadCall, PlanCall, PartCall, HeaderCall};
 ghost use Rattle.capi.specs.Options.{options_of};
 
 use crate::{options, places, results};
-use answers::{Gate, Refusal};
+use answers::Refusal;
 use fields::copying;
 use guest::{GuestAddress, Memory, maps, parts, sizes};
 use loads::formats;
-use loads::formats::Kind;
 
 // Loads an image into guest memory, whose map is start, size, start, size .. `kernel` has 6 places: the load address,
 // the kernel's end, PVH (0 ignored, 1 not present, 2 present), the PVH address, and the offset and the size of the
@@ -26,15 +28,13 @@ pub extern "C" fn rekusoyen_raw_load(
     highmem: u64,
     kernel: &mut [u64],
 ) -> u32
-    ensures { LoadCall (call_gate 6 kernel.old format) image.now (options_of format flags offset highmem) (map_of map.now) guest.old kernel.old result guest.new kernel.new }
+    ensures { LoadCall (call_gate 6 kernel.old format) image.now (options_of format flags offset highmem) (map_of
+        map.now) guest.old kernel.old result guest.new kernel.new }
 {
-    let gate = answers::require(Gate::Open, kernel.len() == 6, Refusal::NoRoom);
-    let gate = options::ask_format(gate, format as u64);
-    match gate {
-        Gate::Shut(refusal) => answers::number(refusal),
-        Gate::Open => {
-            let made = options::options_of(format, flags, offset, highmem);
-            let answer = loads::load(guest, maps::from_numbers(map), image, made);
+    match options::of_call(kernel.len() == 6, format, flags, offset, highmem) {
+        Err(refusal) => u32::from(refusal),
+        Ok(options) => {
+            let answer = loads::load(guest, maps::from_numbers(map), image, options);
             results::put_answer(kernel, answer)
         }
     }
@@ -45,7 +45,7 @@ pub fn memory_by(size: u64, map: &[u64]) -> Memory
     ensures { result ≡ memory_by size map.now }
 {
     Memory {
-        size: size,
+        size,
         map: maps::from_numbers(map),
     }
 }
@@ -63,18 +63,14 @@ pub extern "C" fn rekusoyen_raw_plan(
     highmem: u64,
     plan: &mut [u64],
 ) -> u32
-    ensures { PlanCall (call_gate 7 plan.old format) image.now (memory_by memory_size map.now) (options_of format flags offset highmem) plan.old result plan.new }
+    ensures { PlanCall (call_gate 7 plan.old format) image.now (memory_by memory_size map.now) (options_of format
+        flags offset highmem) plan.old result plan.new }
 {
-    let gate = answers::require(Gate::Open, plan.len() == 7, Refusal::NoRoom);
-    let gate = options::ask_format(gate, format as u64);
-    match gate {
-        Gate::Shut(refusal) => answers::number(refusal),
-        Gate::Open => {
-            let made = options::options_of(format, flags, offset, highmem);
-            let memory = memory_by(memory_size, map);
-            let answer = formats::plan(memory, image, made);
-            let count = formats::count(image, made);
-            results::put_plan(plan, answer, count)
+    match options::of_call(plan.len() == 7, format, flags, offset, highmem) {
+        Err(refusal) => u32::from(refusal),
+        Ok(options) => {
+            let answer = formats::plan(&memory_by(memory_size, map), image, options);
+            results::put_plan(plan, answer, formats::count(image, options))
         }
     }
 }
@@ -92,19 +88,15 @@ pub extern "C" fn rekusoyen_raw_part(
     index: u64,
     part: &mut [u64],
 ) -> u32
-    ensures { PartCall (call_gate 3 part.old format) image.now (memory_by memory_size map.now) (options_of format flags offset 0) index part.old result part.new }
+    ensures { PartCall (call_gate 3 part.old format) image.now (memory_by memory_size map.now) (options_of format
+        flags offset 0) index part.old result part.new }
 {
-    let gate = answers::require(Gate::Open, part.len() == 3, Refusal::NoRoom);
-    let gate = options::ask_format(gate, format as u64);
-    match gate {
-        Gate::Shut(refusal) => answers::number(refusal),
-        Gate::Open => {
-            let made = options::options_of(format, flags, offset, 0);
-            let memory = memory_by(memory_size, map);
-            let planned = formats::part(image, made, index);
-            let kept = parts::kept(image.len() as u64, memory, planned);
-            let values = results::part_numbers(kept);
-            places::put(part, 0, &values);
+    match options::of_call(part.len() == 3, format, flags, offset, 0) {
+        Err(refusal) => u32::from(refusal),
+        Ok(options) => {
+            let planned = formats::part(image, options, index);
+            let kept = parts::kept(image.len() as u64, &memory_by(memory_size, map), planned);
+            places::put(part, 0, &results::part_numbers(kept));
             0
         }
     }
@@ -115,11 +107,17 @@ pub extern "C" fn rekusoyen_raw_part(
 pub extern "C" fn rekusoyen_kind(image: &[u8]) -> u32
     ensures { result ≡ kind_number (kind_of image.now) }
 {
-    let kind = formats::kind_of(image);
-    match kind {
-        Kind::Is(format) => options::format_code(format),
-        Kind::Unknown => 0,
+    match formats::kind_of(image) {
+        Some(format) => options::format_code(format),
+        None => 0,
     }
+}
+
+fn check_header(image_len: u64, header_len: usize) -> Result<(), Refusal>
+    ensures { result ≡ asked_all pass (header_tests image_len header_len) }
+{
+    answers::require(header_len == 123, Refusal::NoRoom)?;
+    answers::require(sizes::is_allowed(image_len), Refusal::SliceTooLong)
 }
 
 // The setup header of a bzImage that is loaded at an address, 123 bytes.
@@ -127,15 +125,12 @@ pub extern "C" fn rekusoyen_kind(image: &[u8]) -> u32
 pub extern "C" fn rekusoyen_setup_header(image: &[u8], load: u64, header: &mut [u8]) -> u32
     ensures { HeaderCall (header_gate image.now header.old) image.now load header.old result header.new }
 {
-    let gate = answers::require(Gate::Open, header.len() == 123, Refusal::NoRoom);
-    let allowed = sizes::is_allowed(image.len() as u64);
-    let gate = answers::require(gate, allowed, Refusal::SliceTooLong);
-    match gate {
-        Gate::Shut(refusal) => answers::number(refusal),
-        Gate::Open => {
-            let bytes = bzimage::header::header_with(image, GuestAddress(load));
-            copying::copy(header, &bytes);
-            0
-        }
+    if let Err(refusal) = check_header(image.len() as u64, header.len()) {
+        return u32::from(refusal);
     }
+    copying::copy(
+        header,
+        &bzimage::header::header_with(image, GuestAddress(load)),
+    );
+    0
 }

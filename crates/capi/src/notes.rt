@@ -5,25 +5,20 @@ ghost use Rattle.capi.specs.Values.{Tells};
 
 use crate::{places, results};
 use answers::Refusal;
-use elf::{ElfNote, NoteAnswer};
+use elf::ElfNote;
 use guest::ImagePlace;
 
-// The number of a note walk's answer; its values into `out`.
-fn put_note(out: &mut [u64], note: ElfNote) -> u32
-    ensures { Tells (note_number note.answer) (note_values note.answer note.headers) out.old result out.new }
+// The number of what a note walk returns; its values into `out`.
+fn put_note(out: &mut [u64], walked: Result<ElfNote, Refusal>) -> u32
+    ensures { Tells (note_number walked) (note_values walked) out.old result out.new }
 {
-    let answer = note.answer;
-    match answer {
-        NoteAnswer::Says(said) => {
-            let code = results::pvh_code(said);
-            let address = results::pvh_address(said);
-            let place = results::pvh_place(said);
-            let size = results::pvh_size(said);
-            let values: [u64; 5] = [code, address, note.headers, place, size];
-            places::put(out, 0, &values);
+    match walked {
+        Ok(note) => {
+            let [code, address, place, size] = results::pvh_numbers(note.pvh);
+            places::put(out, 0, &[code, address, note.headers, place, size]);
             0
         }
-        NoteAnswer::Refused(refusal) => answers::number(refusal),
+        Err(refusal) => u32::from(refusal),
     }
 }
 
@@ -39,7 +34,7 @@ pub extern "C" fn rekusoyen_raw_elf_note(
     ensures { NoteCall image.now p_offset p_filesz note.old result note.new }
 {
     if note.len() != 5 {
-        return answers::number(Refusal::NoRoom);
+        return u32::from(Refusal::NoRoom);
     }
     let walked = elf::parse_elf_note(image, ImagePlace(p_offset), p_filesz);
     put_note(note, walked)

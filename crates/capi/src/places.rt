@@ -1,46 +1,28 @@
-// Numbers of a list by their index. Past its end a number is read as 0, and not written.
-ghost use Rattle.std.specs.Prelude.{◌≡◌, ◌+◌, leb, get_or};
+// Numbers of a list, in which a C caller keeps a state, by their index. Past its end a number is read as 0, and not
+// written.
+ghost use Rattle.std.specs.Prelude.{◌≡◌, ◌+◌};
 ghost use Rattle.std.proofs.lemmas.List.Edits.{sets};
 ghost use Rattle.capi.specs.Saved.{numbers_from};
 
-pub(crate) fn number_at(numbers: &[u64], at: usize) -> u64
-    ensures { result ≡ get_or numbers.now at 0 }
-{
-    if at < numbers.len() { numbers[at] } else { 0 }
-}
+use guest::maps;
 
-pub(crate) fn is_at_most(numbers: &[u64], at: usize, most: u64) -> bool
-    ensures { result ≡ leb (get_or numbers.now at 0) most }
-{
-    number_at(numbers, at) <= most
-}
-
-// Sixteen numbers from a place on.
+// Sixteen numbers from an index on. The list may be too short, so that its slice of sixteen may not be there to copy.
 pub(crate) fn sixteen(numbers: &[u64], from: u32) -> [u64; 16]
     ensures { result ≡ numbers_from 16 numbers.now from }
 {
-    let mut taken: [u64; 16] = [0; 16];
-    let start = from as usize;
-    let mut i: usize = 0;
-    while i < 16 {
-        taken[i] = number_at(numbers, start + i);
-        i += 1;
+    let mut taken = [0; 16];
+    for (i, slot) in taken.iter_mut().enumerate() {
+        *slot = maps::number_at(numbers, from as usize + i);
     }
     taken
 }
 
-// Writes numbers from a place on, as far as the list goes.
+// Writes numbers from an index on, as far as the list goes. Not `fields::copying::put`, which is over bytes and copies
+// them in blocks.
 pub fn put(numbers: &mut [u64], from: usize, values: &[u64])
     ensures { numbers.new ≡ sets numbers.old from values.now }
 {
-    let mut at = from;
-    let mut i = 0;
-    while i < values.len() {
-        if numbers.len() <= at {
-            return;
-        }
-        numbers[at] = values[i];
-        at += 1;
-        i += 1;
-    }
+    let from = from.min(numbers.len());
+    let n = values.len().min(numbers.len() - from);
+    numbers[from..from + n].copy_from_slice(&values[..n]);
 }

@@ -1,12 +1,11 @@
-// Loads in steps. The state of a load is in numbers that the caller keeps; what no call wrote is refused, never
-// trusted.
+// Loads in steps. The state of a load is in numbers that the caller keeps; a list whose numbers are those of no state
+// is refused.
 ghost use Rattle.guest.specs.Maps.{map_of};
 ghost use Rattle.capi.specs.Loads.{call_gate};
 ghost use Rattle.capi.specs.Options.{options_of};
 ghost use Rattle.capi.specs.States.{BeginCall, step_gate, StepCall};
 
 use crate::{options, saved};
-use answers::{Gate, Refusal};
 use guest::maps;
 
 // Starts a load in steps: writes its state, 50 numbers, over whatever they held.
@@ -18,15 +17,13 @@ pub extern "C" fn rekusoyen_raw_begin(
     offset: u64,
     highmem: u64,
 ) -> u32
-    ensures { BeginCall (call_gate 50 state.old format) (options_of format flags offset highmem) state.old result state.new }
+    ensures { BeginCall (call_gate 50 state.old format) (options_of format flags offset highmem) state.old result
+        state.new }
 {
-    let gate = answers::require(Gate::Open, state.len() == saved::SIZE, Refusal::NoRoom);
-    let gate = options::ask_format(gate, format as u64);
-    match gate {
-        Gate::Shut(refusal) => answers::number(refusal),
-        Gate::Open => {
-            let fresh = loads::steps::begin(options::options_of(format, flags, offset, highmem));
-            saved::write(state, fresh);
+    match options::of_call(state.len() == saved::SIZE, format, flags, offset, highmem) {
+        Err(refusal) => u32::from(refusal),
+        Ok(options) => {
+            saved::write(state, loads::steps::begin(options));
             0
         }
     }
@@ -44,13 +41,12 @@ pub extern "C" fn rekusoyen_raw_step(
     budget: u64,
     step: &mut [u64],
 ) -> u32
-    ensures { StepCall (step_gate state.old step.old) image.now (map_of map.now) budget guest.old state.old step.old result guest.new state.new step.new }
+    ensures { StepCall (step_gate state.old step.old) image.now (map_of map.now) budget guest.old state.old step.old
+        result guest.new state.new step.new }
 {
-    let gate = saved::ask(state, step);
-    match gate {
-        Gate::Shut(refusal) => answers::number(refusal),
-        Gate::Open => {
-            let held = saved::read(state);
+    match saved::read(state, step) {
+        Err(refusal) => u32::from(refusal),
+        Ok(held) => {
             let stepped = loads::steps::step(guest, maps::from_numbers(map), image, held, budget);
             saved::put_step(state, step, stepped)
         }

@@ -1,4 +1,2 @@
-pub mod CallsLaws
-pub mod AloneLaws
 pub mod PlacesLaws
 pub mod Outcomes

@@ -1,4 +1,6 @@
 -- Each function permits one outcome.
+use Rattle.std.specs.Prelude.{Option}
+use Rattle.guest.specs.declared.GuestAddress.{GuestAddress}
 use Prim.Native.Nat.{ℕ}
 use mathlib.Core.Path.{◌≡◌, refl, sym, ◌∙◌, ap}
 use mathlib.Core.List.{List}
@@ -9,7 +11,6 @@ use Rattle.answers.specs.Outcome.{OneOutcome}
 use Rattle.answers.proofs.Outcomes.{meet, first}
 use Rattle.capi.proofs.Outcomes.{both, over}
 use Rattle.capi.specs.Values.{number_where, left_where}
-use Rattle.guest.specs.declared.Given.{Given}
 use Rattle.placing.proofs.PlacingLaws.{lowest_one, highest_one}
 use Rattle.capi_boot.specs.Places.{found_number, found_values, PlaceTells}
 use Rattle.capi_boot.proofs.zero_page.rekusoyen_raw_boot_zero_page_plan.Kinds as zero_page_plan_kinds
@@ -90,15 +91,15 @@ pub put_one : OneOutcome 3 put_kinds.ps put_kinds.r put_reads.Post
 put_one κs a z z' ws ws' p q = (meet p.answer q.answer, first (meet p.memory q.memory))
 
 -- what is told of two addresses that are the same one
-same_number : {f g : Given} {out left right : List ℕ} {r s : ℕ} → f ≡ g → PlaceTells f out r left
+same_number : {f g : Option GuestAddress} {out left right : List ℕ} {r s : ℕ} → f ≡ g → PlaceTells f out r left
     → PlaceTells g out s right → r ≡ s
 same_number {out = out} e p q =
-    p.answer ∙ ap (λ (x : Given). number_where (eqb (length out) 1) (found_number x)) e ∙ sym q.answer
+    p.answer ∙ ap (λ (x : Option GuestAddress). number_where (eqb (length out) 1) (found_number x)) e ∙ sym q.answer
 
-same_left : {f g : Given} {out left right : List ℕ} {r s : ℕ} → f ≡ g → PlaceTells f out r left
+same_left : {f g : Option GuestAddress} {out left right : List ℕ} {r s : ℕ} → f ≡ g → PlaceTells f out r left
     → PlaceTells g out s right → left ≡ right
 same_left {out = out} e p q =
-    p.told ∙ ap (λ (x : Given). left_where (eqb (length out) 1) (sets out 0 (found_values x)) out) e ∙ sym q.told
+    p.told ∙ ap (λ (x : Option GuestAddress). left_where (eqb (length out) 1) (sets out 0 (found_values x)) out) e ∙ sym q.told
 
 pub place_one : OneOutcome 3 place_kinds.ps place_kinds.r place_reads.Post
 place_one κs a z z' ws ws' p q =

@@ -1,4 +1,6 @@
 -- Laws of what is told of an address that is found, by the size of the list.
+use Rattle.std.specs.Prelude.{Option}
+use Rattle.guest.specs.declared.GuestAddress.{GuestAddress}
 use Prim.Native.Nat.{ℕ}
 use mathlib.Core.Path.{◌≡◌, refl}
 use mathlib.Core.List.{List}
@@ -8,10 +10,9 @@ use lib.Seq.{sets}
 use Rattle.answers.specs.Catalogue.{number_of}
 use Rattle.answers.specs.declared.Refusal.TheVariants.{NoRoom}
 use Rattle.capi.proofs.LoadsLaws.{picks, passes}
-use Rattle.guest.specs.declared.Given.{Given}
 use Rattle.capi_boot.specs.Places.{found_number, found_values, PlaceTells}
 
-module _ (found : Given) (out : List ℕ) where
+module _ (found : Option GuestAddress) (out : List ℕ) where
   pub place_unsized : {r : ℕ} → (length out ≡ 1 → ⊥) → r ≡ number_of NoRoom → PlaceTells found out r out
   place_unsized other e =
       let f = ne_eqb (length out) 1 other in

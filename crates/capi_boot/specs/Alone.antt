@@ -1,9 +1,7 @@
 -- What the entry points for single pieces answer and leave.
 use Rattle.std.specs.Prelude.{ℕ, ◌≡◌, List, ◌++◌}
 use Rattle.answers.specs.Pick.{pick}
-use Rattle.answers.specs.Tests.{asked_all}
-use Rattle.answers.specs.declared.Gate.{Gate}
-use Rattle.answers.specs.declared.Gate.TheVariants.{Open}
+use Rattle.answers.specs.Tests.{asked_all, Check, pass}
 use Rattle.boot.specs.Checks.{limit_of, limit_tests}
 use Rattle.boot.specs.Putting.{put_plan}
 use Rattle.capi.specs.Options.{format_tests, options_of}
@@ -16,9 +14,9 @@ use Rattle.start_info.specs.Answers.{gate_number}
 use Rattle.capi_boot.specs.Calls.{limit_given}
 
 -- the check of a line by the lengths of its texts: the format, then the limit
-unfoldable pub line_gate : List ℕ → ℕ → ℕ → ℕ → ℕ → ℕ → Gate
+unfoldable pub line_gate : List ℕ → ℕ → ℕ → ℕ → ℕ → ℕ → Check
 line_gate image format flags limit text init =
-    asked_all Open
+    asked_all pass
     (format_tests format
     ++ limit_tests (limit_of image (options_of format flags 0 0) (limit_given flags limit)) (size_of text init))
 

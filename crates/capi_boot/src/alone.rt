@@ -6,10 +6,32 @@ ghost use Rattle.start_info.specs.Answers.{gate_number};
 ghost use Rattle.capi_boot.specs.Alone.{line_gate, room_number, PutCall};
 
 use crate::calls;
-use answers::Gate;
+use answers::Refusal;
 use boot::{pieces, putting};
-use capi::{entries, options};
+use capi::{entries, options, results};
 use guest::{GuestAddress, maps, room};
+
+// The format of a call, then the length of a line.
+fn check_line(
+    image: &[u8],
+    format: u32,
+    flags: u32,
+    limit: u32,
+    text_len: usize,
+    init_len: usize,
+) -> Result<(), Refusal>
+    ensures { result ≡ line_gate image.now format flags limit text_len init_len }
+{
+    options::ask_format(u64::from(format))?;
+    let options = options::options_of(format, flags, 0, 0);
+    pieces::check_line(
+        image,
+        options,
+        calls::limit_by(flags, limit),
+        text_len,
+        init_len,
+    )
+}
 
 // Is a line no longer than the kernel takes? Bit 2 of the flags: a limit is given.
 #[unsafe(no_mangle)]
@@ -23,11 +45,7 @@ pub extern "C" fn rekusoyen_line_check(
 ) -> u32
     ensures { result ≡ gate_number (line_gate image.now format flags limit (length text.now) (length init.now)) }
 {
-    let gate = options::ask_format(Gate::Open, format as u64);
-    let made = options::options_of(format, flags, 0, 0);
-    let most = calls::limit_by(flags, limit);
-    let gate = pieces::check_line(gate, image, made, most, text.len(), init.len());
-    calls::number(gate)
+    results::check_number(check_line(image, format, flags, limit, text.len(), init.len()))
 }
 
 // 1 if so many bytes at an address lie in one range of guest memory, else 0; 0 bytes have room at every address.
@@ -36,10 +54,7 @@ pub extern "C" fn rekusoyen_has_room(memory_size: u64, map: &[u64], address: u64
     ensures { result ≡ room_number (memory_by memory_size map.now) address size }
 {
     let memory = entries::memory_by(memory_size, map);
-    if room::room_for(memory, GuestAddress(address), size) {
-        return 1;
-    }
-    0
+    u32::from(room::room_for(&memory, GuestAddress(address), size))
 }
 
 // Puts a blob at an address, a ramdisk or a device tree. A refusal leaves guest memory as it was.
@@ -47,7 +62,10 @@ pub extern "C" fn rekusoyen_has_room(memory_size: u64, map: &[u64], address: u64
 pub extern "C" fn rekusoyen_put(guest: &mut [u8], map: &[u64], address: u64, bytes: &[u8]) -> u32
     ensures { PutCall (map_of map.now) address bytes.now guest.old result guest.new }
 {
-    let ranges = maps::from_numbers(map);
-    let gate = putting::put(guest, ranges, GuestAddress(address), bytes);
-    calls::number(gate)
+    results::check_number(putting::put(
+        guest,
+        maps::from_numbers(map),
+        GuestAddress(address),
+        bytes,
+    ))
 }

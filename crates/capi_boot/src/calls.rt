@@ -1,30 +1,20 @@
-// What all boots have in common: the tests of a call, the limit of a line, and the numbers of an answer.
+// What all boots have in common: the limit of a line, the kind of entry, and the numbers of an answer.
 ghost use Rattle.std.specs.Prelude.{◌≡◌};
 ghost use Rattle.capi.specs.Values.{Tells};
-ghost use Rattle.start_info.specs.Answers.{gate_number};
-ghost use Rattle.capi_boot.specs.Calls.{boot_gate, limit_given, is_wide, boot_number, boot_values};
+ghost use Rattle.capi_boot.specs.Calls.{limit_given, is_wide, boot_number, boot_values};
 
-use answers::{Gate, Refusal};
-use boot::{Answer, Limit};
-use capi::{options, places, results};
+use answers::Refusal;
+use boot::Booted;
+use capi::{places, results};
 
-// The tests of a call: 7 numbers for the results, then the format.
-pub(crate) fn check(len: usize, format: u32) -> Gate
-    ensures { result ≡ boot_gate len format }
-{
-    let gate = answers::require(Gate::Open, len == 7, Refusal::NoRoom);
-    options::ask_format(gate, format as u64)
-}
+// How many numbers a boot that is accepted returns: the six of a load, then the entry address.
+pub(crate) const SIZE: usize = 7;
 
 // Bit 2 of the flags: a limit is given.
-pub(crate) fn limit_by(flags: u32, limit: u32) -> Limit
+pub(crate) fn limit_by(flags: u32, limit: u32) -> Option<u32>
     ensures { result ≡ limit_given flags limit }
 {
-    if flags / 4 % 2 == 1 {
-        Limit::Bytes(limit)
-    } else {
-        Limit::Linux
-    }
+    (flags / 4 % 2 == 1).then_some(limit)
 }
 
 // Bit 3: the kernel is entered in 64-bit mode.
@@ -34,29 +24,17 @@ pub(crate) fn is_wide(flags: u32) -> bool
     flags / 8 % 2 == 1
 }
 
-// The number of a boot's answer; its values into `out`.
-pub(crate) fn put_booted(out: &mut [u64], answer: Answer) -> u32
+// The number of a boot's answer; its values into `out`. Not `put_plan` of `capi`: the seventh number is part of the
+// answer, and no argument beside it.
+pub(crate) fn put_booted(out: &mut [u64], answer: Result<Booted, Refusal>) -> u32
     ensures { Tells (boot_number answer) (boot_values answer) out.old result out.new }
 {
     match answer {
-        Answer::Booted(booted) => {
-            let kernel = booted.kernel;
-            let values = results::kernel_numbers(kernel);
-            let entry: [u64; 1] = [booted.entry.0];
-            places::put(out, 0, &values);
-            places::put(out, 6, &entry);
+        Ok(booted) => {
+            places::put(out, 0, &results::kernel_numbers(booted.kernel));
+            places::put(out, 6, &[booted.entry.0]);
             0
         }
-        Answer::Refused(refusal) => answers::number(refusal),
-    }
-}
-
-// The number of a gate: 0 if no test refused.
-pub(crate) fn number(gate: Gate) -> u32
-    ensures { result ≡ gate_number gate }
-{
-    match gate {
-        Gate::Open => 0,
-        Gate::Shut(refusal) => answers::number(refusal),
+        Err(refusal) => u32::from(refusal),
     }
 }

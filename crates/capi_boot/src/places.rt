@@ -1,25 +1,26 @@
-// Where a piece can go in guest memory.
+// Where a piece can go in guest memory. The two exports are two C functions, and their parameters those of C: lists of
+// numbers for a map and for what is placed.
 ghost use Rattle.capi.specs.Loads.{memory_by};
 ghost use Rattle.placing.specs.Placing.{FirstFit, LastFit};
 ghost use Rattle.capi_boot.specs.Places.{PlaceTells, PlaceCall};
 
 use answers::Refusal;
 use capi::entries;
-use guest::Given;
+use guest::GuestAddress;
 
 // The number of what was found, NoRoom if there is none; the address into the one element of `out`.
-fn put_place(out: &mut [u64], found: Given) -> u32
+fn put_place(out: &mut [u64], found: Option<GuestAddress>) -> u32
     ensures { PlaceTells found out.old result out.new }
 {
     if out.len() != 1 {
-        return answers::number(Refusal::NoRoom);
+        return u32::from(Refusal::NoRoom);
     }
     match found {
-        Given::At(a) => {
-            out[0] = a.0;
+        Some(address) => {
+            out[0] = address.0;
             0
         }
-        Given::Nothing => answers::number(Refusal::NoRoom),
+        None => u32::from(Refusal::NoRoom),
     }
 }
 
@@ -37,10 +38,11 @@ pub extern "C" fn rekusoyen_raw_place(
     size: u64,
     address: &mut [u64],
 ) -> u32
-    ensures { PlaceCall (FirstFit (memory_by memory_size map.now) placed.now low high align size) address.old result address.new }
+    ensures { PlaceCall (FirstFit (memory_by memory_size map.now) placed.now low high align size) address.old result
+        address.new }
 {
     let memory = entries::memory_by(memory_size, map);
-    let found = placing::place(memory, placed, low, high, align, size);
+    let found = placing::place(&memory, placed, low, high, align, size);
     put_place(address, found)
 }
 
@@ -56,9 +58,10 @@ pub extern "C" fn rekusoyen_raw_place_high(
     size: u64,
     address: &mut [u64],
 ) -> u32
-    ensures { PlaceCall (LastFit (memory_by memory_size map.now) placed.now low high align size) address.old result address.new }
+    ensures { PlaceCall (LastFit (memory_by memory_size map.now) placed.now low high align size) address.old result
+        address.new }
 {
     let memory = entries::memory_by(memory_size, map);
-    let found = placing::place_high(memory, placed, low, high, align, size);
+    let found = placing::place_high(&memory, placed, low, high, align, size);
     put_place(address, found)
 }

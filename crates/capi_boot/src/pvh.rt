@@ -1,4 +1,6 @@
 // A boot by PVH. Flags: 1 an offset is given, 2 the start of high memory, 4 a limit of the line.
+// Parameters that travel together and lists of rows are those of the C functions, and so each export matches on the
+// `Result` of its tests: an inner function with `?` would take them all again.
 ghost use Rattle.std.specs.Prelude.{◌≡◌, length};
 ghost use Rattle.boot.specs.Pvh.{answer_of, plan_of};
 ghost use Rattle.capi.specs.Loads.{memory_by};
@@ -10,8 +12,6 @@ ghost use Rattle.capi_boot.specs.Calls.{boot_gate, limit_given, PlanCall, BootCa
 ghost use Rattle.capi_boot.specs.Pvh.{pvh_by};
 
 use crate::calls;
-use answers::Gate;
-use boot::pvh;
 use boot::pvh::Pvh;
 use capi::{entries, options};
 use guest::{GuestAddress, maps};
@@ -22,7 +22,7 @@ fn addresses_by(line: u64, ramdisk: u64, block: u32, rsdp: u64) -> Pvh
     Pvh {
         line: GuestAddress(line),
         ramdisk: GuestAddress(ramdisk),
-        block: block,
+        block,
         rsdp: GuestAddress(rsdp),
     }
 }
@@ -49,23 +49,34 @@ pub extern "C" fn rekusoyen_raw_boot_pvh_plan(
     rsdp: u64,
     booted: &mut [u64],
 ) -> u32
-    ensures { PlanCall (boot_gate (length booted.old) format) (answer_of (memory_by memory_size map.now) image.now (options_of format flags offset highmem) (limit_given flags limit) (bare text.now init.now) (pvh_by line ramdisk_at block rsdp) ramdisk_len rows.now) booted.old result booted.new }
+    ensures { PlanCall (boot_gate (length booted.old) format) (answer_of (memory_by memory_size map.now) image.now
+        (options_of format flags offset highmem) (limit_given flags limit) (bare text.now init.now) (pvh_by line
+        ramdisk_at block rsdp) ramdisk_len rows.now) booted.old result booted.new }
 {
-    let gate = calls::check(booted.len(), format);
-    match gate {
-        Gate::Shut(refusal) => answers::number(refusal),
-        Gate::Open => {
+    match options::of_call(booted.len() == calls::SIZE, format, flags, offset, highmem) {
+        Err(refusal) => u32::from(refusal),
+        Ok(options) => {
             let memory = entries::memory_by(memory_size, map);
-            let made = options::options_of(format, flags, offset, highmem);
-            let most = calls::limit_by(flags, limit);
+            let limit = calls::limit_by(flags, limit);
             let to = addresses_by(line, ramdisk_at, block, rsdp);
-            let answer = pvh::plan(memory, image, made, most, text, init, to, ramdisk_len, rows);
+            let answer = boot::pvh::plan(
+                &memory,
+                image,
+                options,
+                limit,
+                text,
+                init,
+                to,
+                ramdisk_len,
+                rows,
+            );
             calls::put_booted(booted, answer)
         }
     }
 }
 
-// Puts kernel, line, ramdisk and start block into guest memory: all of them, or nothing. A refusal leaves `booted`.
+// Puts kernel, line, ramdisk and start block into guest memory: all of them, or nothing. A refusal leaves `booted` as
+// it was.
 #[unsafe(no_mangle)]
 pub extern "C" fn rekusoyen_raw_boot_pvh(
     guest: &mut [u8],
@@ -86,18 +97,18 @@ pub extern "C" fn rekusoyen_raw_boot_pvh(
     rsdp: u64,
     booted: &mut [u64],
 ) -> u32
-    ensures { BootCall (boot_gate (length booted.old) format) (plan_of (memory_of guest.old (map_of map.now)) image.now (options_of format flags offset highmem) (limit_given flags limit) (bare text.now init.now) (pvh_by line ramdisk_at block rsdp) ramdisk.now rows.now) guest.old booted.old result guest.new booted.new }
+    ensures { BootCall (boot_gate (length booted.old) format) (plan_of (memory_of guest.old (map_of map.now))
+        image.now (options_of format flags offset highmem) (limit_given flags limit) (bare text.now init.now) (pvh_by
+        line ramdisk_at block rsdp) ramdisk.now rows.now) guest.old booted.old result guest.new booted.new }
 {
-    let gate = calls::check(booted.len(), format);
-    match gate {
-        Gate::Shut(refusal) => answers::number(refusal),
-        Gate::Open => {
+    match options::of_call(booted.len() == calls::SIZE, format, flags, offset, highmem) {
+        Err(refusal) => u32::from(refusal),
+        Ok(options) => {
             let ranges = maps::from_numbers(map);
-            let made = options::options_of(format, flags, offset, highmem);
-            let most = calls::limit_by(flags, limit);
+            let limit = calls::limit_by(flags, limit);
             let to = addresses_by(line, ramdisk_at, block, rsdp);
-            let answer = pvh::load(
-                guest, ranges, image, made, most, text, init, to, ramdisk, rows,
+            let answer = boot::pvh::load(
+                guest, ranges, image, options, limit, text, init, to, ramdisk, rows,
             );
             calls::put_booted(booted, answer)
         }

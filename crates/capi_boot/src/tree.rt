@@ -1,4 +1,6 @@
 // A boot with a device tree. Flags: 1 an offset is given, 2 the start of high memory, 4 a limit of the line.
+// Parameters that travel together and lists of rows are those of the C functions, and so each export matches on the
+// `Result` of its tests: an inner function with `?` would take them all again.
 ghost use Rattle.std.specs.Prelude.{◌≡◌, length};
 ghost use Rattle.boot.specs.Tree.{answer_of, plan_of};
 ghost use Rattle.capi.specs.Loads.{memory_by};
@@ -9,7 +11,6 @@ ghost use Rattle.capi_boot.specs.Calls.{boot_gate, limit_given, PlanCall, BootCa
 ghost use Rattle.capi_boot.specs.Tree.{tree_by};
 
 use crate::calls;
-use answers::Gate;
 use boot::tree::Tree;
 use capi::{entries, options};
 use guest::{GuestAddress, maps};
@@ -20,7 +21,7 @@ fn addresses_by(line: u64, ramdisk: u64, at: u64) -> Tree
     Tree {
         tree: GuestAddress(at),
         ramdisk: GuestAddress(ramdisk),
-        line: line,
+        line,
     }
 }
 
@@ -44,17 +45,26 @@ pub extern "C" fn rekusoyen_raw_boot_tree_plan(
     tree_at: u64,
     booted: &mut [u64],
 ) -> u32
-    ensures { PlanCall (boot_gate (length booted.old) format) (answer_of (memory_by memory_size map.now) image.now (options_of format flags offset highmem) (limit_given flags limit) text.now (tree_by line_offset ramdisk_at tree_at) ramdisk_len tree.now) booted.old result booted.new }
+    ensures { PlanCall (boot_gate (length booted.old) format) (answer_of (memory_by memory_size map.now) image.now
+        (options_of format flags offset highmem) (limit_given flags limit) text.now (tree_by line_offset ramdisk_at
+        tree_at) ramdisk_len tree.now) booted.old result booted.new }
 {
-    let gate = calls::check(booted.len(), format);
-    match gate {
-        Gate::Shut(refusal) => answers::number(refusal),
-        Gate::Open => {
+    match options::of_call(booted.len() == calls::SIZE, format, flags, offset, highmem) {
+        Err(refusal) => u32::from(refusal),
+        Ok(options) => {
             let memory = entries::memory_by(memory_size, map);
-            let made = options::options_of(format, flags, offset, highmem);
-            let most = calls::limit_by(flags, limit);
+            let limit = calls::limit_by(flags, limit);
             let to = addresses_by(line_offset, ramdisk_at, tree_at);
-            let answer = boot::tree::plan(memory, image, made, most, text, to, ramdisk_len, tree);
+            let answer = boot::tree::plan(
+                &memory,
+                image,
+                options,
+                limit,
+                text,
+                to,
+                ramdisk_len,
+                tree,
+            );
             calls::put_booted(booted, answer)
         }
     }
@@ -79,18 +89,18 @@ pub extern "C" fn rekusoyen_raw_boot_tree(
     tree_at: u64,
     booted: &mut [u64],
 ) -> u32
-    ensures { BootCall (boot_gate (length booted.old) format) (plan_of (memory_of guest.old (map_of map.now)) image.now (options_of format flags offset highmem) (limit_given flags limit) text.now (tree_by line_offset ramdisk_at tree_at) ramdisk.now tree.now) guest.old booted.old result guest.new booted.new }
+    ensures { BootCall (boot_gate (length booted.old) format) (plan_of (memory_of guest.old (map_of map.now))
+        image.now (options_of format flags offset highmem) (limit_given flags limit) text.now (tree_by line_offset
+        ramdisk_at tree_at) ramdisk.now tree.now) guest.old booted.old result guest.new booted.new }
 {
-    let gate = calls::check(booted.len(), format);
-    match gate {
-        Gate::Shut(refusal) => answers::number(refusal),
-        Gate::Open => {
+    match options::of_call(booted.len() == calls::SIZE, format, flags, offset, highmem) {
+        Err(refusal) => u32::from(refusal),
+        Ok(options) => {
             let ranges = maps::from_numbers(map);
-            let made = options::options_of(format, flags, offset, highmem);
-            let most = calls::limit_by(flags, limit);
+            let limit = calls::limit_by(flags, limit);
             let to = addresses_by(line_offset, ramdisk_at, tree_at);
             let answer = boot::tree::load(
-                guest, ranges, image, made, most, text, to, ramdisk, tree,
+                guest, ranges, image, options, limit, text, to, ramdisk, tree,
             );
             calls::put_booted(booted, answer)
         }

@@ -1,4 +1,6 @@
 // A boot by zero page. Flags: 1 an offset is given, 2 the start of high memory, 4 a limit of the line, 8 64-bit entry.
+// Parameters that travel together and lists of rows are those of the C functions, and so each export matches on the
+// `Result` of its tests: an inner function with `?` would take them all again.
 ghost use Rattle.std.specs.Prelude.{◌≡◌, length};
 ghost use Rattle.boot.specs.ZeroPage.{answer_of, plan_of};
 ghost use Rattle.capi.specs.Loads.{memory_by};
@@ -10,8 +12,6 @@ ghost use Rattle.capi_boot.specs.Calls.{boot_gate, limit_given, PlanCall, BootCa
 ghost use Rattle.capi_boot.specs.ZeroPage.{zero_page_by};
 
 use crate::calls;
-use answers::Gate;
-use boot::zero_page;
 use boot::zero_page::ZeroPage;
 use capi::{entries, options};
 use guest::maps;
@@ -19,12 +19,11 @@ use guest::maps;
 fn addresses_by(line: u32, ramdisk: u32, page: u32, flags: u32) -> ZeroPage
     ensures { result ≡ zero_page_by line ramdisk page flags }
 {
-    let wide = calls::is_wide(flags);
     ZeroPage {
-        line: line,
-        ramdisk: ramdisk,
-        page: page,
-        wide: wide,
+        line,
+        ramdisk,
+        page,
+        wide: calls::is_wide(flags),
     }
 }
 
@@ -49,21 +48,21 @@ pub extern "C" fn rekusoyen_raw_boot_zero_page_plan(
     page: u32,
     booted: &mut [u64],
 ) -> u32
-    ensures { PlanCall (boot_gate (length booted.old) format) (answer_of (memory_by memory_size map.now) image.now (options_of format flags offset highmem) (limit_given flags limit) (bare text.now init.now) (zero_page_by line ramdisk_at page flags) ramdisk_len rows.now) booted.old result booted.new }
+    ensures { PlanCall (boot_gate (length booted.old) format) (answer_of (memory_by memory_size map.now) image.now
+        (options_of format flags offset highmem) (limit_given flags limit) (bare text.now init.now) (zero_page_by line
+        ramdisk_at page flags) ramdisk_len rows.now) booted.old result booted.new }
 {
-    let gate = calls::check(booted.len(), format);
-    match gate {
-        Gate::Shut(refusal) => answers::number(refusal),
-        Gate::Open => {
+    match options::of_call(booted.len() == calls::SIZE, format, flags, offset, highmem) {
+        Err(refusal) => u32::from(refusal),
+        Ok(options) => {
             let memory = entries::memory_by(memory_size, map);
-            let made = options::options_of(format, flags, offset, highmem);
-            let most = calls::limit_by(flags, limit);
+            let limit = calls::limit_by(flags, limit);
             let to = addresses_by(line, ramdisk_at, page, flags);
-            let answer = zero_page::plan(
-                memory,
+            let answer = boot::zero_page::plan(
+                &memory,
                 image,
-                made,
-                most,
+                options,
+                limit,
                 text,
                 init,
                 to,
@@ -95,18 +94,19 @@ pub extern "C" fn rekusoyen_raw_boot_zero_page(
     page: u32,
     booted: &mut [u64],
 ) -> u32
-    ensures { BootCall (boot_gate (length booted.old) format) (plan_of (memory_of guest.old (map_of map.now)) image.now (options_of format flags offset highmem) (limit_given flags limit) (bare text.now init.now) (zero_page_by line ramdisk_at page flags) ramdisk.now rows.now) guest.old booted.old result guest.new booted.new }
+    ensures { BootCall (boot_gate (length booted.old) format) (plan_of (memory_of guest.old (map_of map.now))
+        image.now (options_of format flags offset highmem) (limit_given flags limit) (bare text.now init.now)
+        (zero_page_by line ramdisk_at page flags) ramdisk.now rows.now) guest.old booted.old result guest.new
+        booted.new }
 {
-    let gate = calls::check(booted.len(), format);
-    match gate {
-        Gate::Shut(refusal) => answers::number(refusal),
-        Gate::Open => {
+    match options::of_call(booted.len() == calls::SIZE, format, flags, offset, highmem) {
+        Err(refusal) => u32::from(refusal),
+        Ok(options) => {
             let ranges = maps::from_numbers(map);
-            let made = options::options_of(format, flags, offset, highmem);
-            let most = calls::limit_by(flags, limit);
+            let limit = calls::limit_by(flags, limit);
             let to = addresses_by(line, ramdisk_at, page, flags);
-            let answer = zero_page::load(
-                guest, ranges, image, made, most, text, init, to, ramdisk, rows,
+            let answer = boot::zero_page::load(
+                guest, ranges, image, options, limit, text, init, to, ramdisk, rows,
             );
             calls::put_booted(booted, answer)
         }

@@ -1,13 +1,11 @@
 -- Laws of the entry point of a job: what it comes to by the size of the list for the text.
 use Prim.Native.Nat.{ℕ}
-use mathlib.Core.Path.{◌≡◌, refl, sym, ap, ◌∙◌}
+use mathlib.Core.Path.{◌≡◌, refl, ap, ◌∙◌}
 use mathlib.Core.List.{List}
-use lib.ListN.{length, replicate, length-replicate}
-use lib.Seq.{sets, length-sets}
+use lib.ListN.{length}
 use borrow.Author.Tests.{eq-eqb, ne_eqb}
 use Rattle.answers.specs.Catalogue.{number_of}
 use Rattle.answers.specs.declared.Refusal.TheVariants.{NoRoom}
-use Rattle.fields.proofs.CopyingLaws.{sets_whole}
 use Rattle.desk.specs.Printing.{printed, output_of}
 use Rattle.desk.specs.Work.{guest_size}
 use Rattle.desk.specs.declared.Output.{Output}
@@ -23,12 +21,8 @@ module _ (job text : List ℕ) where
       let f = ne_eqb (length text) 80 other in
       record { answer = passes 0 f e; bytes = passes (output_of print).bytes f refl }
 
-  pub job_sized : {o : Output} {left : List ℕ} → length text ≡ 80 → o ≡ output_of print → left ≡ sets text 0 o.bytes
+  pub job_sized : {o : Output} {left : List ℕ} → length text ≡ 80 → o ≡ output_of print → left ≡ o.bytes
       → JobCall job text 0 left
   job_sized same is e =
       let t = eq-eqb (length text) 80 same in
-      let size : length (output_of print).bytes ≡ 80 = length-sets (replicate 80 0) 0 print ∙ length-replicate {A = ℕ} 80 0 in
-      record {
-        answer = picks (number_of NoRoom) t refl;
-        bytes = picks text t (e ∙ ap (λ (x : Output). sets text 0 x.bytes) is ∙ sets_whole (output_of print).bytes text (same ∙ sym size));
-      }
+      record { answer = picks (number_of NoRoom) t refl; bytes = picks text t (e ∙ ap (λ (x : Output). x.bytes) is) }

@@ -1,6 +1,7 @@
 -- What stands behind the texts has no part: two lines of equal numbers and texts get equal answers from every call, and leave equal numbers and
 -- texts (`call_behind`, and for each function `insert_behind` and its like); and they are written, compared and loaded alike (`write_behind`,
 -- `equal_behind`, `load_behind`).
+use Rattle.std.specs.Prelude.{Ok, Err, Option}
 use Prim.Native.Nat.{ℕ}
 use mathlib.Core.Path.{◌≡◌, refl, sym, ap, ◌∙◌, subst, subst⁻¹}
 use mathlib.Core.List.{List, [], ◌∷◌, ◌++◌}
@@ -8,12 +9,9 @@ use lib.Dec.{eqb}
 use lib.ListN.{length}
 use lib.Seq.{sets}
 use Rattle.answers.specs.Pick.{pick}
-use Rattle.answers.specs.Tests.{Test, asked_all}
+use Rattle.answers.specs.Tests.{Test, asked_all, Check, pass}
 use Rattle.answers.specs.declared.Refusal.TheVariants.{NoRoom}
-use Rattle.answers.specs.declared.Gate.{Gate}
-use Rattle.answers.specs.declared.Gate.TheVariants.{Open, Shut}
 use Rattle.answers.proofs.TestsLaws.{open_all, hold_left, hold_right}
-use Rattle.cmdline.specs.declared.DeviceId.{DeviceId}
 use Rattle.cmdline.specs.Text.{Text}
 use Rattle.cmdline.specs.Insertion.{Plan, answer_of, call_number, settled, insert, insert_multiple, insert_str, insert_init_args}
 use Rattle.cmdline.specs.Device.{add_device}
@@ -23,8 +21,6 @@ use Rattle.guest.specs.Room.{memory_of}
 use Rattle.guest.specs.declared.Map.{Map}
 use Rattle.guest.specs.declared.Memory.{Memory}
 use Rattle.guest.specs.Stream.{pour}
-use Rattle.loader.specs.declared.Answer.{Answer}
-use Rattle.loader.specs.declared.Answer.TheVariants.{Refused}
 use Rattle.loader.specs.Lines as lines
 use Rattle.capi_lines.specs.Lines
 use Rattle.capi_lines.proofs.HoldsLaws.{holds_text}
@@ -61,19 +57,19 @@ module _ {part : Lines.Part} {plan : Text → Plan} (k : Lines.AppendsTo part pl
       ∙ ap (λ (t : Text). Lines.line_tests b ++ (plan t).tests) s.text
 
   pub call_behind : (r ≡ q) × Lines.SameLine left last
-  call_behind = split (asked_all Open (row a)) refl x (subst⁻¹ (λ (g : Gate). Lines.LineLeft g b (put b) q last) (ap (asked_all Open) same_row) y)
+  call_behind = split (asked_all pass (row a)) refl x (subst⁻¹ (λ (g : Check). Lines.LineLeft g b (put b) q last) (ap (asked_all pass) same_row) y)
     where
-      split : (g : Gate) → asked_all Open (row a) ≡ g → Lines.LineLeft g a (put a) r left → Lines.LineLeft g b (put b) q last
+      split : (g : Check) → asked_all pass (row a) ≡ g → Lines.LineLeft g a (put a) r left → Lines.LineLeft g b (put b) q last
           → (r ≡ q) × Lines.SameLine left last
-      split Open e v w =
+      split (Ok _) e v w =
           let all = open_all (row a) e in
-          let other = open_all (row b) (sym (ap (asked_all Open) same_row) ∙ e) in
+          let other = open_all (row b) (sym (ap (asked_all pass) same_row) ∙ e) in
           let one = call_holds k a (hold_left (Lines.line_tests a) (plan (Lines.text_in a)).tests all) (hold_right (Lines.line_tests a) (plan (Lines.text_in a)).tests all) in
           let two = call_holds k b (hold_left (Lines.line_tests b) (plan (Lines.text_in b)).tests other) (hold_right (Lines.line_tests b) (plan (Lines.text_in b)).tests other) in
           let same = holds_same (put a) (put b) (plan (Lines.text_in b)).text
           (subst (λ (t : Text). Lines.Holds (put a) (plan t).text) s.text one) two in
           (v.answer ∙ sym w.answer, rw (v.line, w.line) same)
-      split (Shut refusal) e v w = (v.answer ∙ sym w.answer, rw (v.line, w.line) s)
+      split (Err refusal) e v w = (v.answer ∙ sym w.answer, rw (v.line, w.line) s)
 
 -- ---- each function
 
@@ -94,7 +90,7 @@ module _ (a b : List ℕ) {r q : ℕ} {left last : List ℕ} (s : Lines.SameLine
       → Lines.LineCalls Lines.the_init b (insert_init_args (Lines.text_in b) slug) q last → (r ≡ q) × Lines.SameLine left last
   insert_init_args_behind slug = call_behind (init_appends slug) a b s
 
-  pub device_behind : (size base irq : ℕ) (id : DeviceId) → Lines.LineCalls Lines.the_boot a (add_device (Lines.text_in a) size base irq id) r left
+  pub device_behind : (size base irq : ℕ) (id : Option ℕ) → Lines.LineCalls Lines.the_boot a (add_device (Lines.text_in a) size base irq id) r left
       → Lines.LineCalls Lines.the_boot b (add_device (Lines.text_in b) size base irq id) q last → (r ≡ q) × Lines.SameLine left last
   device_behind size base irq id = call_behind (device_appends size base irq id) a b s
 
@@ -103,14 +99,14 @@ module _ (a b : List ℕ) {r q : ℕ} {left last : List ℕ} (s : Lines.SameLine
 write_gate_lem : (a b count : List ℕ) (room : ℕ) → Lines.SameLine a b → Lines.line_write_gate a count room ≡ Lines.line_write_gate b count room
 unfolding Lines.line_write_gate
 write_gate_lem a b count room s =
-    ap (λ (ts : List Test). asked_all Open (((eqb (length count) 1, NoRoom) ∷ ts) ++ writing.write_tests (Lines.text_in a) room)) (same_tests a b s)
-    ∙ ap (λ (t : Text). asked_all Open (((eqb (length count) 1, NoRoom) ∷ Lines.line_tests b) ++ writing.write_tests t room)) s.text
+    ap (λ (ts : List Test). asked_all pass (((eqb (length count) 1, NoRoom) ∷ ts) ++ writing.write_tests (Lines.text_in a) room)) (same_tests a b s)
+    ∙ ap (λ (t : Text). asked_all pass (((eqb (length count) 1, NoRoom) ∷ Lines.line_tests b) ++ writing.write_tests t room)) s.text
 
 equal_gate_lem : (a b c d out : List ℕ) → Lines.SameLine a b → Lines.SameLine c d → Lines.equal_gate a c out ≡ Lines.equal_gate b d out
 unfolding Lines.equal_gate
 equal_gate_lem a b c d out s u =
-    ap (λ (ts : List Test). asked_all Open (((eqb (length out) 1, NoRoom) ∷ ts) ++ Lines.line_tests c)) (same_tests a b s)
-    ∙ ap (λ (ts : List Test). asked_all Open (((eqb (length out) 1, NoRoom) ∷ Lines.line_tests b) ++ ts)) (same_tests c d u)
+    ap (λ (ts : List Test). asked_all pass (((eqb (length out) 1, NoRoom) ∷ ts) ++ Lines.line_tests c)) (same_tests a b s)
+    ∙ ap (λ (ts : List Test). asked_all pass (((eqb (length out) 1, NoRoom) ∷ Lines.line_tests b) ++ ts)) (same_tests c d u)
 
 pub write_behind : (a b : List ℕ) (out count : List ℕ) {r : ℕ} {out-left count_left : List ℕ} → Lines.SameLine a b
     → Lines.LineWrites a out count r out-left count_left → Lines.LineWrites b out count r out-left count_left
@@ -124,37 +120,37 @@ write_behind a b out count s w =
     gate : Lines.line_write_gate a count (length out) ≡ Lines.line_write_gate b count (length out)
     gate = write_gate_lem a b count (length out) s
 
-    by_both : {A : Type 0} (f : Gate → Text → A)
+    by_both : {A : Type 0} (f : Check → Text → A)
         → f (Lines.line_write_gate a count (length out)) (Lines.text_in a) ≡ f (Lines.line_write_gate b count (length out)) (Lines.text_in b)
-    by_both f = ap (λ (g : Gate). f g (Lines.text_in a)) gate ∙ ap (f (Lines.line_write_gate b count (length out))) s.text
+    by_both f = ap (λ (g : Check). f g (Lines.text_in a)) gate ∙ ap (f (Lines.line_write_gate b count (length out))) s.text
 
 pub equal_behind : (a b c d : List ℕ) (out : List ℕ) {r : ℕ} {left : List ℕ} → Lines.SameLine a b → Lines.SameLine c d → Lines.LinesCompare a c out r left
     → Lines.LinesCompare b d out r left
 equal_behind a b c d out s u w =
     let gate = equal_gate_lem a b c d out s u in
     record {
-      answer = w.answer ∙ ap (λ (g : Gate). call_number (answer_of g)) gate;
+      answer = w.answer ∙ ap (λ (g : Check). call_number (answer_of g)) gate;
       told =
           w.told
-          ∙ ap (λ (g : Gate). settled g out (sets out 0 (pick (writing.same_line (Lines.text_in a) (Lines.text_in c)) 1 0 ∷ []))) gate
+          ∙ ap (λ (g : Check). settled g out (sets out 0 (pick (writing.same_line (Lines.text_in a) (Lines.text_in c)) 1 0 ∷ []))) gate
           ∙ ap (λ (t : Text). settled (Lines.equal_gate b d out) out (sets out 0 (pick (writing.same_line t (Lines.text_in c)) 1 0 ∷ []))) s.text
           ∙ ap (λ (t : Text). settled (Lines.equal_gate b d out) out (sets out 0 (pick (writing.same_line (Lines.text_in b) t) 1 0 ∷ []))) u.text;
     }
 
 same_load_plan : (a b : List ℕ) (m : Memory) (address : ℕ) → Lines.SameLine a b → Lines.load_plan a m address ≡ Lines.load_plan b m address
 same_load_plan a b m address s =
-    ap (λ (ts : List Test). loading.behind_tests Refused (ts ++ lines.tests (Lines.text_in a) m address) (lines.line_plan (Lines.text_in a) address)) (same_tests a b s)
-    ∙ ap (λ (t : Text). loading.behind_tests Refused (Lines.line_tests b ++ lines.tests t m address) (lines.line_plan t address)) s.text
+    ap (λ (ts : List Test). loading.behind_tests Err (ts ++ lines.tests (Lines.text_in a) m address) (lines.line_plan (Lines.text_in a) address)) (same_tests a b s)
+    ∙ ap (λ (t : Text). loading.behind_tests Err (Lines.line_tests b ++ lines.tests t m address) (lines.line_plan t address)) s.text
 
 pub load_behind : (a b : List ℕ) (address : ℕ) (map : Map) (guest : List ℕ) {r : ℕ} {after : List ℕ} → Lines.SameLine a b → Lines.LineLoadsFrom a address map guest r after
     → Lines.LineLoadsFrom b address map guest r after
 load_behind a b address map guest s w =
     let plan = same_load_plan a b (memory_of guest map) address s in
     record {
-      answer = w.answer ∙ ap (λ (p : loading.Plan Answer). lines.line_number p.answer) plan;
-      memory = w.memory ∙ ap (λ (p : loading.Plan Answer). pour p.stream guest) plan;
+      answer = w.answer ∙ ap (λ (p : loading.Plan Check). lines.line_number p.answer) plan;
+      memory = w.memory ∙ ap (λ (p : loading.Plan Check). pour p.stream guest) plan;
     }
 
 pub plan_behind : (a b : List ℕ) (size : ℕ) (map : Map) (address : ℕ) → Lines.SameLine a b → Lines.plan_number a size map address ≡ Lines.plan_number b size map address
 plan_behind a b size map address s =
-    ap (λ (p : loading.Plan Answer). lines.line_number p.answer) (same_load_plan a b (record { size = size; map = map }) address s)
+    ap (λ (p : loading.Plan Check). lines.line_number p.answer) (same_load_plan a b (record { size = size; map = map }) address s)

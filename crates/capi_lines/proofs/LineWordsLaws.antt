@@ -8,7 +8,7 @@ use borrow.Author.Tests.{eq-eqb, ne_eqb}
 use Rattle.answers.specs.Pick.{pick}
 use Rattle.answers.specs.Catalogue.{number_of}
 use Rattle.answers.specs.declared.Refusal.TheVariants.{NoRoom}
-use Rattle.words.specs.declared.Answer.{Answer}
+use Rattle.words.specs.Telling.{Answer}
 use Rattle.words.specs.Telling.{room_of, answer_for, words_number, words_values, ReadsLine}
 use Rattle.capi.specs.Values.{Tells}
 use Rattle.capi_lines.specs.LineWords.{LineWords}

@@ -1,23 +1,25 @@
--- Laws of a line in lent bytes: what its tests tell, and what the entry points come to by how the tests end.
-use Prim.Native.Nat.{ℕ, suc, ◌+◌, ◌-◌, ◌≤◌, ◌<◌, min}
+-- Laws of a line in bytes: what its tests say, and what the entry points come to by how the tests end.
+use Rattle.std.specs.Prelude.{Ok, Err, Some, None, Option, Result, not}
+use Rattle.std.specs.Bool.{then_some}
+use Rattle.std.specs.Result.{result_and}
+use mir.Val.{bool_byte}
+use Prim.Native.Nat.{ℕ, ◌+◌, ◌-◌, ◌≤◌, min}
 use mathlib.Core.Path.{◌≡◌, refl, sym, ap, ◌∙◌, subst, subst⁻¹}
-use mathlib.Core.Bool.{Bool, true}
+use mathlib.Core.Bool.{Bool, true, false}
 use mathlib.Core.List.{List, [], ◌∷◌, ◌++◌}
 use native.Mathlib.Omega.{arith}
 use native.Mathlib.Decide.{dec_le}
-use lib.Dec.{eqb}
-use lib.ListN.{length, set, take, drop, replicate, length-drop, length-take, length-append, drop_of_length-le, replicate-append-replicate}
-use lib.Seq.{sets, take_all, take-suc-set, length-take-le}
-use borrow.Author.Tests.{leb-true, eqb-true}
+use lib.Dec.{leb, eqb}
+use lib.ListN.{length, take, drop, replicate, length-drop, length-take, length-append, drop_of_length-le}
+use lib.Seq.{sets, take_all, length-take-le}
+use borrow.Author.Tests.{leb-true, le-leb, eqb-true, eq-eqb, ne_eqb}
 use borrow.Rule.Slice.PartMut.{mid_of, put_mid}
 use Rattle.answers.specs.Catalogue.{number_of}
 use Rattle.answers.specs.Pick.{pick}
-use Rattle.answers.specs.Tests.{Test, asked, asked_all, AllHold}
+use Rattle.answers.specs.Tests.{Test, asked, asked_all, AllHold, Check, pass}
 use Rattle.answers.specs.declared.Refusal.{Refusal}
 use Rattle.answers.specs.declared.Refusal.TheVariants.{NoRoom, InvalidCapacity}
-use Rattle.answers.specs.declared.Gate.{Gate}
-use Rattle.answers.specs.declared.Gate.TheVariants.{Open, Shut}
-use Rattle.answers.proofs.TestsLaws.{open_all, shut_stays, asked_append, hold_left, hold_right}
+use Rattle.answers.proofs.TestsLaws.{open_all, first_held, first_failed, shut_stays, asked_append, hold_right}
 use Rattle.fields.specs.Numbers.{le, le_bytes}
 use Rattle.slugs.specs.Bytes.{equals}
 use Rattle.slugs.specs.Trimming.{trim}
@@ -27,10 +29,6 @@ use Rattle.slugs.specs.Lists.{list_pre, listed}
 use Rattle.slugs.specs.Joining.{space_after, joined}
 use Rattle.slugs.specs.Splitting.{split_at, boot_part, init_part}
 use Rattle.slugs.proofs.PartLaws.{part_sets, part_same, sets_own_from}
-use Rattle.cmdline.specs.declared.DeviceId.{DeviceId}
-use Rattle.cmdline.specs.declared.Written.{Written}
-use Rattle.cmdline.specs.declared.in_place.Appended.{Appended}
-use Rattle.cmdline.specs.declared.in_place.Appended.TheVariants as appended
 use Rattle.cmdline.specs.Limit.{limit, allowed}
 use Rattle.cmdline.specs.Text.{Text, size_of, counted, boot_gap, init_gap, boot_room, init_room}
 use Rattle.cmdline.specs.Insertion.{Plan, answer_of, call_number, settled, insert_str, insert_init_args, insert, insert_multiple}
@@ -40,18 +38,17 @@ use Rattle.cmdline.specs.InPlace.{Append, str_append, pair_append, list_append, 
 use Rattle.cmdline.specs.Writing as writing
 use Rattle.cmdline.proofs.InPlaceLaws.{appends_full}
 use Rattle.cmdline.proofs.TextLaws.{size_boot, size_init, init_asked, joined_long}
-use Rattle.cmdline.proofs.MakingLaws.{allowed_most}
+use Rattle.cmdline.proofs.MakingLaws.{allowed_most, allowed_least}
 use Rattle.cmdline.proofs.WritingLaws.{writes_any}
 use Rattle.guest.specs.Loading as loading
 use Rattle.guest.specs.Room.{memory_of}
 use Rattle.guest.specs.declared.Map.{Map}
 use Rattle.guest.specs.declared.Memory.{Memory}
 use Rattle.guest.specs.Stream.{pour}
-use Rattle.loader.specs.declared.Answer.{Answer}
-use Rattle.loader.specs.declared.Answer.TheVariants.{Refused}
 use Rattle.loader.specs.Lines as lines
-use Rattle.capi_lines.specs.declared.lines.Header.{Header}
+use Rattle.cmdline.specs.declared.sizes.Lengths.{Lengths}
 use Rattle.capi.specs.Values.{Tells}
+use Rattle.capi.proofs.StatesLaws.{and_ok, and_err}
 use Rattle.capi_lines.specs.Lines
 
 -- ---- a text in the bytes
@@ -133,10 +130,10 @@ module _ (number place : ℕ) (bytes : List ℕ) (n : ℕ) (within : n ≤ limit
       ∙ sym (sets_own_from place n bytes (space_after n ++ s) there)
       ∙ ap (λ (k : ℕ). sets bytes place (text ++ (space_after k ++ s))) (sym text_long)
 
-  appended_left : (g : Append) {said : Appended} {d left : List ℕ} {r : ℕ} → (AllHold g.tests → length (joined text g.slug) ≤ limit)
+  appended_left : (g : Append) {said : Result ℕ Refusal} {d left : List ℕ} {r : ℕ} → (AllHold g.tests → length (joined text g.slug) ≤ limit)
       → Appends g (mid_of place limit bytes) n said d → Lines.StoresLength said number (put_mid place limit bytes d) r left
-      → Lines.LineLeft (asked_all Open g.tests) bytes (Lines.with_text number place bytes (joined text g.slug)) r left
-  appended_left g {said} {d} {left} {r} top w told = split (asked_all Open ts) refl (appends_full g whole w)
+      → Lines.LineLeft (asked_all pass g.tests) bytes (Lines.with_text number place bytes (joined text g.slug)) r left
+  appended_left g {said} {d} {left} {r} top w told = split (asked_all pass ts) refl (appends_full g whole w)
     where
       ts : List Test
       ts = g.tests
@@ -153,24 +150,24 @@ module _ (number place : ℕ) (bytes : List ℕ) (n : ℕ) (within : n ≤ limit
           let full = part_long in
           omega arith
 
-      split : (g : Gate) → asked_all Open ts ≡ g → AppendsBy g (mid_of place limit bytes) n s said d
+      split : (g : Check) → asked_all pass ts ≡ g → AppendsBy g (mid_of place limit bytes) n s said d
           → Lines.LineLeft g bytes (Lines.with_text number place bytes (joined text s)) r left
-      split Open e v =
+      split (Ok _) e v =
           let high = top (open_all ts e) in
           let gap = ap (λ (k : ℕ). length (space_after k ++ s)) text_long in
           let whole = length-append text (space_after (length text) ++ s) in
           let own = text_long in
           let full = part_long in
           let end : min (n + length (space_after n ++ s)) (length (mid_of place limit bytes)) ≡ length (joined text s) = omega arith in
-          let tells : Lines.StoresLength (appended.Length (length (joined text s))) number (put_mid place limit bytes d) r left =
-          subst (λ (x : Appended). Lines.StoresLength x number (put_mid place limit bytes d) r left) (v.answer ∙ ap appended.Length end) told in
+          let tells : Lines.StoresLength (Ok (length (joined text s))) number (put_mid place limit bytes d) r left =
+          subst (λ (x : Result ℕ Refusal). Lines.StoresLength x number (put_mid place limit bytes d) r left) (v.answer ∙ ap Ok end) told in
           record {
             answer = tells.answer;
             line = tells.line ∙ ap (λ (l : List ℕ). sets l number (le_bytes 8 (length (joined text s)))) (put_part s d high v.bytes);
           }
-      split (Shut x) e v =
-          let tells : Lines.StoresLength (appended.Refused x) number (put_mid place limit bytes d) r left =
-          subst (λ (y : Appended). Lines.StoresLength y number (put_mid place limit bytes d) r left) v.answer told in
+      split (Err x) e v =
+          let tells : Lines.StoresLength (Err x) number (put_mid place limit bytes d) r left =
+          subst (λ (y : Result ℕ Refusal). Lines.StoresLength y number (put_mid place limit bytes d) r left) v.answer told in
           record {
             answer = tells.answer;
             line = tells.line ∙ ap (λ (l : List ℕ). put_mid place limit bytes l) v.bytes ∙ part_same place limit bytes;
@@ -178,58 +175,81 @@ module _ (number place : ℕ) (bytes : List ℕ) (n : ℕ) (within : n ≤ limit
 
 -- ---- the header, and calls on the line behind it
 
-module _ (bytes : List ℕ) {header : Header} (reads : header ≡ Lines.header_by Open bytes) where
-  header_gate : header.gate ≡ asked_all Open (Lines.line_tests bytes)
-  unfolding Lines.header_by
-  header_gate = ap (λ (h : Header). h.gate) reads
+-- the size of the bytes is tested first
+pub unsized : (bytes : List ℕ) (ts : List Test) {refusal : Refusal} → asked pass (eqb (length bytes) Lines.line_size) NoRoom ≡ Err refusal
+    → asked_all pass (Lines.size_test bytes ∷ ts) ≡ Err refusal
+unsized bytes ts {refusal} e = ap (λ (g : Check). asked_all g ts) e ∙ shut_stays ts refusal
 
-  pub call_refused : (part : Lines.Part) (plan : Plan) {refusal : Refusal} {r : ℕ} → header.gate ≡ Shut refusal → r ≡ number_of refusal
+pub sized : (bytes : List ℕ) (ts : List Test) → asked pass (eqb (length bytes) Lines.line_size) NoRoom ≡ pass
+    → asked_all pass (Lines.size_test bytes ∷ ts) ≡ asked_all pass ts
+sized bytes ts e = ap (λ (g : Check). asked_all g ts) e
+
+-- what is read, by how the tests end
+module _ (bytes : List ℕ) where
+  abbrev sizes : List Test
+  sizes = size_tests (le 8 bytes 0) (le 8 bytes 8) (le 8 bytes 16)
+
+  pub header_unread : {refusal : Refusal} → asked_all pass (Lines.size_test bytes ∷ sizes) ≡ Err refusal → Err refusal ≡ Lines.header_of bytes
+  unfolding Lines.header_of Lines.line_tests
+  header_unread e = ap (λ (g : Check). result_and g (Ok (Lines.lengths_in bytes))) (sym e)
+
+  pub header_read : asked_all pass (Lines.size_test bytes ∷ sizes) ≡ pass → Ok (Lines.lengths_in bytes) ≡ Lines.header_of bytes
+  unfolding Lines.header_of Lines.line_tests
+  header_read e = ap (λ (g : Check). result_and g (Ok (Lines.lengths_in bytes))) (sym e)
+
+module _ (bytes : List ℕ) {read : Result Lengths Refusal} (reads : read ≡ Lines.header_of bytes) where
+  header_shut : {refusal : Refusal} → read ≡ Err refusal → asked_all pass (Lines.line_tests bytes) ≡ Err refusal
+  unfolding Lines.header_of
+  header_shut e = and_err (asked_all pass (Lines.line_tests bytes)) (Lines.lengths_in bytes) reads e
+
+  header_open : {header : Lengths} → read ≡ Ok header → (asked_all pass (Lines.line_tests bytes) ≡ pass) × (header ≡ Lines.lengths_in bytes)
+  unfolding Lines.header_of
+  header_open e = let both = and_ok (asked_all pass (Lines.line_tests bytes)) reads e in (both.0, sym both.1)
+
+  pub call_refused : (part : Lines.Part) (plan : Plan) {refusal : Refusal} {r : ℕ} → read ≡ Err refusal → r ≡ number_of refusal
       → Lines.LineCalls part bytes plan r bytes
   call_refused part plan {refusal} {r} shut er =
-      subst⁻¹ (λ (g : Gate). Lines.LineLeft g bytes (Lines.with_part part bytes plan.text) r bytes)
-      (asked_append Open (Lines.line_tests bytes) plan.tests
-      ∙ ap (λ (g : Gate). asked_all g plan.tests) (sym header_gate ∙ shut)
+      subst⁻¹ (λ (g : Check). Lines.LineLeft g bytes (Lines.with_part part bytes plan.text) r bytes)
+      (asked_append pass (Lines.line_tests bytes) plan.tests
+      ∙ ap (λ (g : Check). asked_all g plan.tests) (header_shut shut)
       ∙ shut_stays plan.tests refusal)
       (record { answer = er; line = refl })
 
-  module _ (opened : header.gate ≡ Open) where
+  module _ {header : Lengths} (opened : read ≡ Ok header) where
     pub header_sized : Sized bytes
-    header_sized = line_sized bytes (open_all (Lines.line_tests bytes) (sym header_gate ∙ opened))
+    header_sized = line_sized bytes (open_all (Lines.line_tests bytes) (header_open opened).0)
 
-    boots_as : min header.boots limit ≡ length (Lines.text_in bytes).boot
-    unfolding Lines.header_by
+    boots_as : min header.boot_len limit ≡ length (Lines.text_in bytes).boot
     boots_as =
-        let e : header.boots ≡ le 8 bytes 0 = ap (λ (h : Header). h.boots) reads in
+        let e : header.boot_len ≡ le 8 bytes 0 = ap (λ (h : Lengths). h.boot_len) (header_open opened).1 in
         let low = header_sized.boots in
         let long = boot_long bytes header_sized in
         omega arith
 
-    inits_as : min header.inits limit ≡ length (Lines.text_in bytes).init
-    unfolding Lines.header_by
+    inits_as : min header.init_len limit ≡ length (Lines.text_in bytes).init
     inits_as =
-        let e : header.inits ≡ le 8 bytes 8 = ap (λ (h : Header). h.inits) reads in
+        let e : header.init_len ≡ le 8 bytes 8 = ap (λ (h : Lengths). h.init_len) (header_open opened).1 in
         let low = header_sized.inits in
         let long = init_long bytes header_sized in
         omega arith
 
     capacity_as : min header.capacity limit ≡ le 8 bytes 16
-    unfolding Lines.header_by
     capacity_as =
-        let e : header.capacity ≡ le 8 bytes 16 = ap (λ (h : Header). h.capacity) reads in
+        let e : header.capacity ≡ le 8 bytes 16 = ap (λ (h : Lengths). h.capacity) (header_open opened).1 in
         let low = header_sized.capacity in
         omega arith
 
     -- the tests of the bytes held: those of the call decide
-    behind_line : (ts : List Test) {new left : List ℕ} {r : ℕ} → Lines.LineLeft (asked_all Open ts) bytes new r left
-        → Lines.LineLeft (asked_all Open (Lines.line_tests bytes ++ ts)) bytes new r left
+    behind_line : (ts : List Test) {new left : List ℕ} {r : ℕ} → Lines.LineLeft (asked_all pass ts) bytes new r left
+        → Lines.LineLeft (asked_all pass (Lines.line_tests bytes ++ ts)) bytes new r left
     behind_line ts {new} {left} {r} w =
-        subst⁻¹ (λ (g : Gate). Lines.LineLeft g bytes new r left)
-        (asked_append Open (Lines.line_tests bytes) ts ∙ ap (λ (g : Gate). asked_all g ts) (sym header_gate ∙ opened)) w
+        subst⁻¹ (λ (g : Check). Lines.LineLeft g bytes new r left)
+        (asked_append pass (Lines.line_tests bytes) ts ∙ ap (λ (g : Check). asked_all g ts) (header_open opened).0) w
 
-    appended_boot : (g : Append) {said : Appended} {d left : List ℕ} {r : ℕ} → (AllHold g.tests → boot_room (Lines.text_in bytes) (length g.slug) ≡ true)
+    appended_boot : (g : Append) {said : Result ℕ Refusal} {d left : List ℕ} {r : ℕ} → (AllHold g.tests → boot_room (Lines.text_in bytes) (length g.slug) ≡ true)
         → Appends g (mid_of Lines.boot_place limit bytes) (length (Lines.text_in bytes).boot) said d
         → Lines.StoresLength said 0 (put_mid Lines.boot_place limit bytes d) r left
-        → Lines.LineLeft (asked_all Open (Lines.line_tests bytes ++ g.tests)) bytes
+        → Lines.LineLeft (asked_all pass (Lines.line_tests bytes ++ g.tests)) bytes
         (Lines.with_text 0 Lines.boot_place bytes (joined (Lines.text_in bytes).boot g.slug)) r left
     appended_boot g {said} {d} {left} {r} room w told =
         let size = header_sized.size in
@@ -248,10 +268,10 @@ module _ (bytes : List ℕ) {header : Header} (reads : header ≡ Lines.header_b
             let most = header_sized.capacity in
             omega arith
 
-    appended_init : (g : Append) {said : Appended} {d left : List ℕ} {r : ℕ} → (AllHold g.tests → init_room (Lines.text_in bytes) (length g.slug) ≡ true)
+    appended_init : (g : Append) {said : Result ℕ Refusal} {d left : List ℕ} {r : ℕ} → (AllHold g.tests → init_room (Lines.text_in bytes) (length g.slug) ≡ true)
         → Appends g (mid_of Lines.init_place limit bytes) (length (Lines.text_in bytes).init) said d
         → Lines.StoresLength said 8 (put_mid Lines.init_place limit bytes d) r left
-        → Lines.LineLeft (asked_all Open (Lines.line_tests bytes ++ g.tests)) bytes
+        → Lines.LineLeft (asked_all pass (Lines.line_tests bytes ++ g.tests)) bytes
         (Lines.with_text 8 Lines.init_place bytes (joined (Lines.text_in bytes).init g.slug)) r left
     appended_init g {said} {d} {left} {r} room w told =
         let size = header_sized.size in
@@ -271,10 +291,10 @@ module _ (bytes : List ℕ) {header : Header} (reads : header ≡ Lines.header_b
             omega arith
 
     -- each call
-    module _ {said : Appended} {d left : List ℕ} {r : ℕ} where
+    module _ {said : Result ℕ Refusal} {d left : List ℕ} {r : ℕ} where
       pub pair_called : (key value : List ℕ)
-          → Appends (pair_append (min header.boots limit) (min header.inits limit) (min header.capacity limit) key value)
-          (mid_of Lines.boot_place limit bytes) (min header.boots limit) said d
+          → Appends (pair_append (min header.boot_len limit) (min header.init_len limit) (min header.capacity limit) key value)
+          (mid_of Lines.boot_place limit bytes) (min header.boot_len limit) said d
           → Lines.StoresLength said 0 (put_mid Lines.boot_place limit bytes d) r left → Lines.LineCalls Lines.the_boot bytes (insert (Lines.text_in bytes) key value) r left
       unfolding insert insert_str str_append pair_append
       pair_called key value w told =
@@ -283,8 +303,8 @@ module _ (bytes : List ℕ) {header : Header} (reads : header ≡ Lines.header_b
           (rw (boots_as, inits_as, capacity_as) at w) told
 
       pub list_called : (key values ends : List ℕ)
-          → Appends (list_append (min header.boots limit) (min header.inits limit) (min header.capacity limit) key values ends)
-          (mid_of Lines.boot_place limit bytes) (min header.boots limit) said d
+          → Appends (list_append (min header.boot_len limit) (min header.init_len limit) (min header.capacity limit) key values ends)
+          (mid_of Lines.boot_place limit bytes) (min header.boot_len limit) said d
           → Lines.StoresLength said 0 (put_mid Lines.boot_place limit bytes d) r left
           → Lines.LineCalls Lines.the_boot bytes (insert_multiple (Lines.text_in bytes) key values ends) r left
       unfolding insert_multiple insert_str str_append list_append
@@ -294,15 +314,15 @@ module _ (bytes : List ℕ) {header : Header} (reads : header ≡ Lines.header_b
           (rw (boots_as, inits_as, capacity_as) at w) told
 
       pub str_called : (slug : List ℕ)
-          → Appends (str_append (min header.boots limit) (min header.inits limit) (min header.capacity limit) slug)
-          (mid_of Lines.boot_place limit bytes) (min header.boots limit) said d
+          → Appends (str_append (min header.boot_len limit) (min header.init_len limit) (min header.capacity limit) slug)
+          (mid_of Lines.boot_place limit bytes) (min header.boot_len limit) said d
           → Lines.StoresLength said 0 (put_mid Lines.boot_place limit bytes d) r left → Lines.LineCalls Lines.the_boot bytes (insert_str (Lines.text_in bytes) slug) r left
       unfolding insert_str str_append
       str_called slug w told = appended_boot (str_append (length (Lines.text_in bytes).boot) (length (Lines.text_in bytes).init) (le 8 bytes 16) slug) (λ hold. hold.1.0) (rw (boots_as, inits_as, capacity_as) at w) told
 
-      pub device_called : (size base irq : ℕ) (id id' : DeviceId) → id' ≡ id
-          → Appends (device_append (min header.boots limit) (min header.inits limit) (min header.capacity limit) size base irq id')
-          (mid_of Lines.boot_place limit bytes) (min header.boots limit) said d
+      pub device_called : (size base irq : ℕ) (id id' : Option ℕ) → id' ≡ id
+          → Appends (device_append (min header.boot_len limit) (min header.init_len limit) (min header.capacity limit) size base irq id')
+          (mid_of Lines.boot_place limit bytes) (min header.boot_len limit) said d
           → Lines.StoresLength said 0 (put_mid Lines.boot_place limit bytes d) r left
           → Lines.LineCalls Lines.the_boot bytes (add_device (Lines.text_in bytes) size base irq id) r left
       unfolding add_device insert_str str_append device_append
@@ -310,19 +330,22 @@ module _ (bytes : List ℕ) {header : Header} (reads : header ≡ Lines.header_b
           appended_boot (device_append (length (Lines.text_in bytes).boot) (length (Lines.text_in bytes).init) (le 8 bytes 16) size base irq id) (λ hold. hold.1.1.0) (rw (boots_as, inits_as, capacity_as, e) at w) told
 
       pub init_called : (slug : List ℕ)
-          → Appends (init_append (min header.boots limit) (min header.inits limit) (min header.capacity limit) slug)
-          (mid_of Lines.init_place limit bytes) (min header.inits limit) said d
+          → Appends (init_append (min header.boot_len limit) (min header.init_len limit) (min header.capacity limit) slug)
+          (mid_of Lines.init_place limit bytes) (min header.init_len limit) said d
           → Lines.StoresLength said 8 (put_mid Lines.init_place limit bytes d) r left → Lines.LineCalls Lines.the_init bytes (insert_init_args (Lines.text_in bytes) slug) r left
       unfolding insert_init_args init_append
       init_called slug w told = appended_init (init_append (length (Lines.text_in bytes).boot) (length (Lines.text_in bytes).init) (le 8 bytes 16) slug) (λ hold. hold.1.0) (rw (boots_as, inits_as, capacity_as) at w) told
 
--- ---- a making
+-- the ID of a device, if it has one
+pub id_given : (flag id : ℕ) → then_some (not (eqb flag 0)) id ≡ Lines.id_by flag id
+unfolding Lines.id_by pick
+id_given flag id = by (eqb flag 0)
+  where
+    by : (b : Bool) → then_some (not b) id ≡ pick b None (Some id)
+    by true = refl
+    by false = refl
 
--- one zero more
-pub blanked : (d : List ℕ) (i : ℕ) → i < length d → take i d ≡ replicate i 0 → take (i + 1) (set d i 0) ≡ replicate (i + 1) 0
-blanked d i h e =
-    let one : i + 1 ≡ suc i = omega arith in
-    ap (λ (k : ℕ). take k (set d i 0)) one ∙ take-suc-set d i 0 h ∙ ap (λ (l : List ℕ). l ++ (0 ∷ [])) e ∙ replicate-append-replicate i 1 0
+-- ---- a making
 
 -- the zeros, the capacity and the two texts, one after the other
 pub new_line_lem : (bytes boot init : List ℕ) (c : ℕ) {zeros d e left : List ℕ} → zeros ≡ replicate (length bytes) 0 → d ≡ sets zeros 16 (le_bytes 8 c)
@@ -333,37 +356,65 @@ new_line_lem bytes boot init c ez ed ee el =
     ∙ ap (λ (x : List ℕ). Lines.with_text 8 Lines.init_place x init)
     (ee ∙ ap (λ (x : List ℕ). Lines.with_text 0 Lines.boot_place x boot) (ed ∙ ap (λ (x : List ℕ). sets x 16 (le_bytes 8 c)) ez))
 
+-- a making whose tests end in one way or the other
+pub make_refused : (bytes boot init : List ℕ) (c : ℕ) {refusal : Refusal} → Lines.make_gate bytes c boot init ≡ Err refusal
+    → Lines.Makes bytes c boot init (Err refusal) bytes
+make_refused bytes boot init c e =
+    record {
+      answer = sym e;
+      line = ap (λ (g : Check). settled g bytes (Lines.new_line (length bytes) (record { boot = boot; init = init; capacity = c }))) (sym e);
+    }
+
+pub make_all : (bytes boot init : List ℕ) (c : ℕ) {left : List ℕ} → Lines.make_gate bytes c boot init ≡ pass
+    → left ≡ Lines.new_line (length bytes) (record { boot = boot; init = init; capacity = c }) → Lines.Makes bytes c boot init pass left
+make_all bytes boot init c e new =
+    record {
+      answer = sym e;
+      line = new ∙ ap (λ (g : Check). settled g bytes (Lines.new_line (length bytes) (record { boot = boot; init = init; capacity = c }))) (sym e);
+    }
+
 -- over bytes whose size is tested
-made_sized : (bytes : List ℕ) (t : Text) (ts : List Test) {g : Gate} {r : ℕ} {left : List ℕ} → g ≡ asked_all Open (Lines.size_test bytes ∷ ts)
-    → Lines.LineLeft g bytes (Lines.new_line (length bytes) t) r left
-    → Lines.LineLeft (asked_all Open (Lines.size_test bytes ∷ ts)) bytes (Lines.new_line Lines.line_size t) r left
-made_sized bytes t ts {g} {r} {left} eg w = split g refl w
+made_sized : (bytes : List ℕ) (t : Text) (ts : List Test) {g : Check} {r : ℕ} {said : Check} {left : List ℕ} → g ≡ asked_all pass (Lines.size_test bytes ∷ ts)
+    → said ≡ g → left ≡ settled g bytes (Lines.new_line (length bytes) t) → r ≡ call_number said
+    → Lines.LineLeft (asked_all pass (Lines.size_test bytes ∷ ts)) bytes (Lines.new_line Lines.line_size t) r left
+made_sized bytes t ts {g} {r} {said} {left} eg es el er = split g refl el (er ∙ ap call_number es)
   where
-    split : (x : Gate) → g ≡ x → Lines.LineLeft x bytes (Lines.new_line (length bytes) t) r left
-        → Lines.LineLeft (asked_all Open (Lines.size_test bytes ∷ ts)) bytes (Lines.new_line Lines.line_size t) r left
-    split Open e v =
-        let gate : asked_all Open (Lines.size_test bytes ∷ ts) ≡ Open = sym eg ∙ e in
+    split : (x : Check) → g ≡ x → left ≡ settled x bytes (Lines.new_line (length bytes) t) → r ≡ call_number g
+        → Lines.LineLeft (asked_all pass (Lines.size_test bytes ∷ ts)) bytes (Lines.new_line Lines.line_size t) r left
+    split (Ok _) e v n =
+        let gate : asked_all pass (Lines.size_test bytes ∷ ts) ≡ pass = sym eg ∙ e in
         let size : length bytes ≡ Lines.line_size = eqb-true (length bytes) Lines.line_size (open_all (Lines.size_test bytes ∷ ts) gate).0 in
-        subst⁻¹ (λ (x : Gate). Lines.LineLeft x bytes (Lines.new_line Lines.line_size t) r left) gate
-        (record { answer = v.answer; line = v.line ∙ ap (λ (n : ℕ). Lines.new_line n t) size })
-    split (Shut refusal) e v =
-        subst⁻¹ (λ (x : Gate). Lines.LineLeft x bytes (Lines.new_line Lines.line_size t) r left) (sym eg ∙ e)
-        (record { answer = v.answer; line = v.line })
+        subst⁻¹ (λ (x : Check). Lines.LineLeft x bytes (Lines.new_line Lines.line_size t) r left) gate
+        (record { answer = n ∙ ap call_number e; line = v ∙ ap (λ (n : ℕ). Lines.new_line n t) size })
+    split (Err refusal) e v n =
+        subst⁻¹ (λ (x : Check). Lines.LineLeft x bytes (Lines.new_line Lines.line_size t) r left) (sym eg ∙ e)
+        (record { answer = n ∙ ap call_number e; line = v })
 
-pub new_made : (bytes : List ℕ) (c : ℕ) {a : Bool} {g h : Gate} {r : ℕ} {left : List ℕ} → g ≡ asked Open (eqb (length bytes) Lines.line_size) NoRoom → a ≡ allowed c
-    → h ≡ asked g a InvalidCapacity → Lines.Makes h bytes c [] [] r left → Lines.LineMakes bytes (new c) r left
+-- two empty texts fit every capacity that is allowed
+empty_fits : (g : Check) (c : ℕ) → asked_all g (size_tests 0 0 c) ≡ asked g (allowed c) InvalidCapacity
+unfolding asked pick size_of
+empty_fits (Err r) c = refl
+empty_fits (Ok _) c = by (allowed c) refl
+  where
+    by : (b : Bool) → allowed c ≡ b
+        → asked (asked pass b InvalidCapacity) (leb (0 + 1 + pick (eqb 0 0) 0 (4 + 0)) c) InvalidCapacity ≡ asked pass b InvalidCapacity
+    by true e = let least = allowed_least c e in rw (le-leb (0 + 1 + pick (eqb 0 0) 0 (4 + 0)) c (omega arith))
+    by false e = refl
+
+pub new_made : (bytes : List ℕ) (c : ℕ) {said : Check} {r : ℕ} {left : List ℕ} → Lines.Makes bytes c [] [] said left → r ≡ call_number said
+    → Lines.LineMakes bytes (new c) r left
 unfolding new
-new_made bytes c first second third w = made_sized bytes (new c).text (new c).tests (third ∙ rw (first, second)) w
+new_made bytes c w er = made_sized bytes (new c).text (new c).tests (empty_fits (asked pass (eqb (length bytes) Lines.line_size) NoRoom) c) w.answer w.line er
 
-pub from_made : (bytes raw : List ℕ) (c at : ℕ) (before after rest : List ℕ) {g h : Gate} {r : ℕ} {left : List ℕ} → at ≡ split_at raw → before ≡ trim (take at raw)
-    → after ≡ trim rest → rest ≡ drop 4 (drop at raw) → g ≡ asked Open (eqb (length bytes) Lines.line_size) NoRoom
-    → h ≡ asked_all g (size_tests (length before) (length after) c) → Lines.Makes h bytes c before after r left → Lines.LineMakes bytes (try_from raw c) r left
+pub from_made : (bytes raw : List ℕ) (c at : ℕ) (before after rest : List ℕ) {said : Check} {r : ℕ} {left : List ℕ} → at ≡ split_at raw → before ≡ trim (take at raw)
+    → after ≡ trim rest → rest ≡ drop 4 (drop at raw) → Lines.Makes bytes c before after said left → r ≡ call_number said → Lines.LineMakes bytes (try_from raw c) r left
 unfolding try_from
-from_made bytes raw c at before after rest {g} {h} {r} {left} place first second later eg eh w =
+from_made bytes raw c at before after rest {said} {r} {left} place first second later w er =
     let boot : before ≡ boot_part raw = rw (← place) first in
     let init : after ≡ init_part raw = rw (← place, ← later) second in
-    made_sized bytes (try_from raw c).text (try_from raw c).tests (eh ∙ rw (eg, boot, init))
-    (subst (λ (x : List ℕ). Lines.Makes h bytes c (boot_part raw) x r left) init (subst (λ (x : List ℕ). Lines.Makes h bytes c x after r left) boot w))
+    let v : Lines.Makes bytes c (boot_part raw) (init_part raw) said left =
+    subst (λ (x : List ℕ). Lines.Makes bytes c (boot_part raw) x said left) init (subst (λ (x : List ℕ). Lines.Makes bytes c x after said left) boot w) in
+    made_sized bytes (try_from raw c).text (try_from raw c).tests refl v.answer v.line er
 
 -- ---- writing
 
@@ -371,175 +422,200 @@ from_made bytes raw c at before after rest {g} {h} {r} {left} place first second
 clipped_text : (n : ℕ) (s : List ℕ) → n ≤ limit → take limit (take n s) ≡ take n s
 clipped_text n s h = let long = length-take n s in take_all limit (take n s) (omega arith)
 
-module _ (bytes out count : List ℕ) {g : Gate} {header : Header} (asks : g ≡ asked Open (eqb (length count) 1) NoRoom) (reads : header ≡ Lines.header_by g bytes) where
+module _ (bytes out count : List ℕ) where
   abbrev front : List Test
   front = (eqb (length count) 1, NoRoom) ∷ Lines.line_tests bytes
 
-  front_gate : header.gate ≡ asked_all Open front
-  unfolding Lines.header_by
-  front_gate = ap (λ (h : Header). h.gate) reads ∙ ap (λ (x : Gate). asked_all x (Lines.line_tests bytes)) asks
-
-  pub write_one : header.gate ≡ Open → length count ≡ 1
-  write_one e = eqb-true (length count) 1 (open_all front (sym front_gate ∙ e)).0
-
-  pub write_refused : {refusal : Refusal} {r : ℕ} → header.gate ≡ Shut refusal → r ≡ number_of refusal → Lines.LineWrites bytes out count r out count
+  write_shut : {refusal : Refusal} {r : ℕ} → asked_all pass front ≡ Err refusal → r ≡ number_of refusal → Lines.LineWrites bytes out count r out count
   unfolding Lines.line_write_gate writing.written_count
-  write_refused {refusal} {r} e er =
+  write_shut {refusal} {r} e er =
       let t = Lines.text_in bytes in
-      let gate : Shut refusal ≡ Lines.line_write_gate bytes count (length out) =
+      let gate : Err refusal ≡ Lines.line_write_gate bytes count (length out) =
       sym
-      (asked_append Open front (writing.write_tests t (length out))
-      ∙ ap (λ (x : Gate). asked_all x (writing.write_tests t (length out))) (sym front_gate ∙ e)
+      (asked_append pass front (writing.write_tests t (length out))
+      ∙ ap (λ (x : Check). asked_all x (writing.write_tests t (length out))) e
       ∙ shut_stays (writing.write_tests t (length out)) refusal) in
       record {
-        answer = er ∙ ap (λ (x : Gate). writing.written_number (writing.written_of x t)) gate;
-        text = ap (λ (x : Gate). sets out 0 (writing.written_bytes x t)) gate;
-        told = ap (λ (x : Gate). sets count 0 (writing.written_count (writing.written_of x t))) gate;
+        answer = er ∙ ap (λ (x : Check). writing.written_number (writing.written_of x t)) gate;
+        text = ap (λ (x : Check). sets out 0 (writing.written_bytes x t)) gate;
+        told = ap (λ (x : Check). sets count 0 (writing.written_count (writing.written_of x t))) gate;
       }
 
-  pub write_told : {w : Written} {r : ℕ} {boot init out-left count_left : List ℕ} → header.gate ≡ Open → boot ≡ take header.boots (drop Lines.boot_place bytes)
-      → init ≡ take header.inits (drop Lines.init_place bytes) → writing.Writes (writing.bare boot init) out w out-left
+  -- the list for the count has another size
+  pub write_unsized : {r : ℕ} → (length count ≡ 1 → ⊥) → r ≡ number_of NoRoom → Lines.LineWrites bytes out count r out count
+  write_unsized n er = write_shut (first_failed (eqb (length count) 1, NoRoom) (Lines.line_tests bytes) (ne_eqb (length count) 1 n)) er
+
+module _ (bytes out count : List ℕ) (one : length count ≡ 1) {read : Result Lengths Refusal} (reads : read ≡ Lines.header_of bytes) where
+  front_held : asked_all pass (front bytes out count) ≡ asked_all pass (Lines.line_tests bytes)
+  front_held = first_held (eqb (length count) 1, NoRoom) (Lines.line_tests bytes) (eq-eqb (length count) 1 one)
+
+  pub write_refused : {refusal : Refusal} {r : ℕ} → read ≡ Err refusal → r ≡ number_of refusal → Lines.LineWrites bytes out count r out count
+  write_refused e er = write_shut bytes out count (front_held ∙ header_shut bytes reads e) er
+
+  pub write_told : {header : Lengths} {w : Result ℕ Refusal} {r : ℕ} {boot init out-left count_left : List ℕ} → read ≡ Ok header → boot ≡ take header.boot_len (drop Lines.boot_place bytes)
+      → init ≡ take header.init_len (drop Lines.init_place bytes) → writing.Writes (writing.bare boot init) out w out-left
       → Tells (writing.written_number w) (writing.written_count w) count r count_left → Lines.LineWrites bytes out count r out-left count_left
-  unfolding Lines.line_write_gate Lines.header_by
-  write_told {w} {r} {boot} {init} {out-left} e eb ei wrote tells =
+  unfolding Lines.line_write_gate
+  write_told {header} {w} {r} {boot} {init} {out-left} e eb ei wrote tells =
       let t = Lines.text_in bytes in
       let gate : writing.write_gate t (length out) ≡ Lines.line_write_gate bytes count (length out) =
       sym
-      (asked_append Open front (writing.write_tests t (length out))
-      ∙ ap (λ (x : Gate). asked_all x (writing.write_tests t (length out))) (sym front_gate ∙ e)) in
-      let same-boot : boot ≡ t.boot = eb ∙ ap (λ (h : Header). take h.boots (drop Lines.boot_place bytes)) reads in
-      let same-init : init ≡ t.init = ei ∙ ap (λ (h : Header). take h.inits (drop Lines.init_place bytes)) reads in
+      (asked_append pass (front bytes out count) (writing.write_tests t (length out))
+      ∙ ap (λ (x : Check). asked_all x (writing.write_tests t (length out))) (front_held ∙ (header_open bytes reads e).0)) in
+      let same-boot : boot ≡ t.boot = eb ∙ ap (λ (h : Lengths). take h.boot_len (drop Lines.boot_place bytes)) (header_open bytes reads e).1 in
+      let same-init : init ≡ t.init = ei ∙ ap (λ (h : Lengths). take h.init_len (drop Lines.init_place bytes)) (header_open bytes reads e).1 in
       let own : writing.Writes t out w out-left =
       writes_any t
       (subst (λ (x : List ℕ). writing.Writes (writing.bare t.boot x) out w out-left) same-init
       (subst (λ (x : List ℕ). writing.Writes (writing.bare x init) out w out-left) same-boot wrote)) in
-      let is : w ≡ writing.written_of (Lines.line_write_gate bytes count (length out)) t = own.answer ∙ ap (λ (x : Gate). writing.written_of x t) gate in
+      let is : w ≡ writing.written_of (Lines.line_write_gate bytes count (length out)) t = own.answer ∙ ap (λ (x : Check). writing.written_of x t) gate in
       record {
         answer = tells.answer ∙ ap writing.written_number is;
-        text = own.bytes ∙ ap (λ (x : Gate). sets out 0 (writing.written_bytes x t)) gate;
-        told = tells.told ∙ ap (λ (x : Written). sets count 0 (writing.written_count x)) is;
+        text = own.bytes ∙ ap (λ (x : Check). sets out 0 (writing.written_bytes x t)) gate;
+        told = tells.told ∙ ap (λ (x : Result ℕ Refusal). sets count 0 (writing.written_count x)) is;
       }
 
 -- ---- comparing
 
-module _ (a b out : List ℕ) {g : Gate} {one two : Header} (asks : g ≡ asked Open (eqb (length out) 1) NoRoom) (reads : one ≡ Lines.header_by g a)
-    (later : two ≡ Lines.header_by one.gate b) where
+module _ (a b out : List ℕ) where
   abbrev first : List Test
   first = (eqb (length out) 1, NoRoom) ∷ Lines.line_tests a
 
-  equal_gate_lem : two.gate ≡ Lines.equal_gate a b out
-  unfolding Lines.equal_gate Lines.header_by
-  equal_gate_lem =
-      ap (λ (h : Header). h.gate) later
-      ∙ ap (λ (h : Header). asked_all h.gate (Lines.line_tests b)) reads
-      ∙ ap (λ (x : Gate). asked_all (asked_all x (Lines.line_tests a)) (Lines.line_tests b)) asks
-      ∙ sym (asked_append Open first (Lines.line_tests b))
+  equal_shut : {refusal : Refusal} {r : ℕ} → Lines.equal_gate a b out ≡ Err refusal → r ≡ number_of refusal → Lines.LinesCompare a b out r out
+  equal_shut {refusal} e er =
+      record {
+        answer = er ∙ ap (λ (x : Check). call_number (answer_of x)) (sym e);
+        told = ap (λ (x : Check). settled x out (sets out 0 (pick (writing.same_line (Lines.text_in a) (Lines.text_in b)) 1 0 ∷ []))) (sym e);
+      }
 
-  equal_holds : two.gate ≡ Open → AllHold (first ++ Lines.line_tests b)
+  -- the tests before those of the second line
+  first_shut_lem : {refusal : Refusal} → asked_all pass first ≡ Err refusal → Lines.equal_gate a b out ≡ Err refusal
   unfolding Lines.equal_gate
-  equal_holds e = open_all (first ++ Lines.line_tests b) (sym equal_gate_lem ∙ e)
+  first_shut_lem {refusal} e =
+      asked_append pass first (Lines.line_tests b) ∙ ap (λ (x : Check). asked_all x (Lines.line_tests b)) e ∙ shut_stays (Lines.line_tests b) refusal
 
-  pub equal_one : two.gate ≡ Open → length out ≡ 1
-  equal_one e = eqb-true (length out) 1 (equal_holds e).0
+  -- the list for the answer has another size
+  pub equal_unsized : {r : ℕ} → (length out ≡ 1 → ⊥) → r ≡ number_of NoRoom → Lines.LinesCompare a b out r out
+  equal_unsized n er = equal_shut (first_shut_lem (first_failed (eqb (length out) 1, NoRoom) (Lines.line_tests a) (ne_eqb (length out) 1 n))) er
 
-  pub equal_refused : {refusal : Refusal} {r : ℕ} → two.gate ≡ Shut refusal → r ≡ number_of refusal → Lines.LinesCompare a b out r out
-  equal_refused {refusal} e er =
-      let gate : Shut refusal ≡ Lines.equal_gate a b out = sym e ∙ equal_gate_lem in
-      record {
-        answer = er ∙ ap (λ (x : Gate). call_number (answer_of x)) gate;
-        told = ap (λ (x : Gate). settled x out (sets out 0 (pick (writing.same_line (Lines.text_in a) (Lines.text_in b)) 1 0 ∷ []))) gate;
-      }
+module _ (a b out : List ℕ) (sized : length out ≡ 1) {read : Result Lengths Refusal} (reads : read ≡ Lines.header_of a) where
+  sized_held : asked_all pass (first a b out) ≡ asked_all pass (Lines.line_tests a)
+  sized_held = first_held (eqb (length out) 1, NoRoom) (Lines.line_tests a) (eq-eqb (length out) 1 sized)
 
-  pub equal_told : {same : Bool} {f : ℕ} {p q u v : List ℕ} → two.gate ≡ Open → p ≡ take one.boots (drop Lines.boot_place a)
-      → q ≡ take one.inits (drop Lines.init_place a) → u ≡ take two.boots (drop Lines.boot_place b) → v ≡ take two.inits (drop Lines.init_place b)
-      → same ≡ writing.same_line (writing.bare (take limit p) (take limit q)) (writing.bare (take limit u) (take limit v)) → f ≡ pick same 1 0
-      → Lines.LinesCompare a b out 0 (sets out 0 (f ∷ []))
-  unfolding Lines.header_by
-  equal_told {same} {f} {p} {q} {u} {v} e ep eq eu ev es ef =
-      let gate : Open ≡ Lines.equal_gate a b out = sym e ∙ equal_gate_lem in
-      let hold = equal_holds e in
-      let sa = line_sized a (hold_left (Lines.line_tests a) (Lines.line_tests b) hold.1) in
-      let sb = line_sized b (hold_right (Lines.line_tests a) (Lines.line_tests b) hold.1) in
-      let ab = sa.boots in
-      let ai = sa.inits in
-      let bb = sb.boots in
-      let bi = sb.inits in
-      let same-p : take limit p ≡ (Lines.text_in a).boot =
-      ap (take limit) (ep ∙ ap (λ (h : Header). take h.boots (drop Lines.boot_place a)) reads) ∙ clipped_text (le 8 a 0) (drop Lines.boot_place a) (omega arith) in
-      let same-q : take limit q ≡ (Lines.text_in a).init =
-      ap (take limit) (eq ∙ ap (λ (h : Header). take h.inits (drop Lines.init_place a)) reads) ∙ clipped_text (le 8 a 8) (drop Lines.init_place a) (omega arith) in
-      let same-u : take limit u ≡ (Lines.text_in b).boot =
-      ap (take limit) (eu ∙ ap (λ (h : Header). take h.boots (drop Lines.boot_place b)) later) ∙ clipped_text (le 8 b 0) (drop Lines.boot_place b) (omega arith) in
-      let same-v : take limit v ≡ (Lines.text_in b).init =
-      ap (take limit) (ev ∙ ap (λ (h : Header). take h.inits (drop Lines.init_place b)) later) ∙ clipped_text (le 8 b 8) (drop Lines.init_place b) (omega arith) in
-      let is : f ≡ pick (writing.same_line (Lines.text_in a) (Lines.text_in b)) 1 0 =
-      ef ∙ ap (λ (x : Bool). pick x 1 0) (es ∙ rw (same-p, same-q, same-u, same-v)) in
-      record {
-        answer = ap (λ (x : Gate). call_number (answer_of x)) gate;
-        told =
-            ap (λ (x : ℕ). sets out 0 (x ∷ [])) is
-            ∙ ap (λ (x : Gate). settled x out (sets out 0 (pick (writing.same_line (Lines.text_in a) (Lines.text_in b)) 1 0 ∷ []))) gate;
-      }
+  pub equal_first : {refusal : Refusal} {r : ℕ} → read ≡ Err refusal → r ≡ number_of refusal → Lines.LinesCompare a b out r out
+  equal_first e er = equal_shut a b out (first_shut_lem a b out (sized_held ∙ header_shut a reads e)) er
+
+  module _ {one : Lengths} (opened : read ≡ Ok one) {later : Result Lengths Refusal} (reads_later : later ≡ Lines.header_of b) where
+    equal_gate_lem : Lines.equal_gate a b out ≡ asked_all pass (Lines.line_tests b)
+    unfolding Lines.equal_gate
+    equal_gate_lem =
+        asked_append pass (first a b out) (Lines.line_tests b)
+        ∙ ap (λ (x : Check). asked_all x (Lines.line_tests b)) (sized_held ∙ (header_open a reads opened).0)
+
+    pub equal_second : {refusal : Refusal} {r : ℕ} → later ≡ Err refusal → r ≡ number_of refusal → Lines.LinesCompare a b out r out
+    equal_second e er = equal_shut a b out (equal_gate_lem ∙ header_shut b reads_later e) er
+
+    pub equal_told : {two : Lengths} {same : Bool} {f : ℕ} {p q u v : List ℕ} → later ≡ Ok two → p ≡ take one.boot_len (drop Lines.boot_place a)
+        → q ≡ take one.init_len (drop Lines.init_place a) → u ≡ take two.boot_len (drop Lines.boot_place b) → v ≡ take two.init_len (drop Lines.init_place b)
+        → same ≡ writing.same_line (writing.bare (take limit p) (take limit q)) (writing.bare (take limit u) (take limit v)) → f ≡ pick same 1 0
+        → Lines.LinesCompare a b out 0 (sets out 0 (f ∷ []))
+    equal_told {two} {same} {f} {p} {q} {u} {v} e ep eq eu ev es ef =
+        let ha = header_open a reads opened in
+        let hb = header_open b reads_later e in
+        let gate : pass ≡ Lines.equal_gate a b out = sym (equal_gate_lem ∙ hb.0) in
+        let sa = line_sized a (open_all (Lines.line_tests a) ha.0) in
+        let sb = line_sized b (open_all (Lines.line_tests b) hb.0) in
+        let ab = sa.boots in
+        let ai = sa.inits in
+        let bb = sb.boots in
+        let bi = sb.inits in
+        let same-p : take limit p ≡ (Lines.text_in a).boot =
+        ap (take limit) (ep ∙ ap (λ (h : Lengths). take h.boot_len (drop Lines.boot_place a)) ha.1) ∙ clipped_text (le 8 a 0) (drop Lines.boot_place a) (omega arith) in
+        let same-q : take limit q ≡ (Lines.text_in a).init =
+        ap (take limit) (eq ∙ ap (λ (h : Lengths). take h.init_len (drop Lines.init_place a)) ha.1) ∙ clipped_text (le 8 a 8) (drop Lines.init_place a) (omega arith) in
+        let same-u : take limit u ≡ (Lines.text_in b).boot =
+        ap (take limit) (eu ∙ ap (λ (h : Lengths). take h.boot_len (drop Lines.boot_place b)) hb.1) ∙ clipped_text (le 8 b 0) (drop Lines.boot_place b) (omega arith) in
+        let same-v : take limit v ≡ (Lines.text_in b).init =
+        ap (take limit) (ev ∙ ap (λ (h : Lengths). take h.init_len (drop Lines.init_place b)) hb.1) ∙ clipped_text (le 8 b 8) (drop Lines.init_place b) (omega arith) in
+        let is : f ≡ pick (writing.same_line (Lines.text_in a) (Lines.text_in b)) 1 0 =
+        ef ∙ ap (λ (x : Bool). pick x 1 0) (es ∙ rw (same-p, same-q, same-u, same-v)) in
+        record {
+          answer = ap (λ (x : Check). call_number (answer_of x)) gate;
+          told =
+              ap (λ (x : ℕ). sets out 0 (x ∷ [])) is
+              ∙ ap (λ (x : Check). settled x out (sets out 0 (pick (writing.same_line (Lines.text_in a) (Lines.text_in b)) 1 0 ∷ []))) gate;
+        }
+
+-- 1 for what holds, else 0
+pub flag : (b : Bool) → bool_byte b ≡ pick b 1 0
+unfolding pick
+flag true = refl
+flag false = refl
 
 -- ---- loading
 
-module _ (bytes : List ℕ) (m : Memory) (address : ℕ) {header : Header} (reads : header ≡ Lines.header_by Open bytes) where
+same_number : (a : Check) → call_number a ≡ lines.line_number a
+unfolding lines.line_number
+same_number (Ok _) = refl
+same_number (Err r) = refl
+
+module _ (bytes : List ℕ) (m : Memory) (address : ℕ) {read : Result Lengths Refusal} (reads : read ≡ Lines.header_of bytes) where
   abbrev row : List Test
   row = lines.tests (Lines.text_in bytes) m address
 
-  abbrev plan : loading.Plan Answer
+  abbrev plan : loading.Plan Check
   plan = lines.line_plan (Lines.text_in bytes) address
 
   -- the plan of a line that its own tests refuse
-  refused_plan_lem : {refusal : Refusal} → header.gate ≡ Shut refusal → Lines.load_plan bytes m address ≡ loading.refused_plan Refused refusal
+  refused_plan_lem : {refusal : Refusal} → read ≡ Err refusal → Lines.load_plan bytes m address ≡ loading.refused_plan Err refusal
   unfolding loading.behind_tests
   refused_plan_lem {refusal} e =
-      ap (λ (g : Gate). loading.behind_gate Refused g plan)
-      (asked_append Open (Lines.line_tests bytes) row ∙ ap (λ (g : Gate). asked_all g row) (sym (header_gate bytes reads) ∙ e) ∙ shut_stays row refusal)
+      ap (λ (g : Check). loading.behind_gate Err g plan)
+      (asked_append pass (Lines.line_tests bytes) row ∙ ap (λ (g : Check). asked_all g row) (header_shut bytes reads e) ∙ shut_stays row refusal)
 
   -- of one that they let through it is the plan of its texts
-  texts_plan : {m' : Memory} {boot init : List ℕ} → header.gate ≡ Open → boot ≡ take header.boots (drop Lines.boot_place bytes)
-      → init ≡ take header.inits (drop Lines.init_place bytes) → m' ≡ m → lines.plan_of (writing.bare boot init) m' address ≡ Lines.load_plan bytes m address
-  unfolding loading.behind_tests Lines.header_by
-  texts_plan {m'} {boot} {init} e eb ei em =
+  texts_plan : {header : Lengths} {m' : Memory} {boot init : List ℕ} → read ≡ Ok header → boot ≡ take header.boot_len (drop Lines.boot_place bytes)
+      → init ≡ take header.init_len (drop Lines.init_place bytes) → m' ≡ m → lines.plan_of (writing.bare boot init) m' address ≡ Lines.load_plan bytes m address
+  unfolding loading.behind_tests
+  texts_plan {header} {m'} {boot} {init} e eb ei em =
       let t = Lines.text_in bytes in
-      let gate : asked_all Open row ≡ asked_all Open (Lines.line_tests bytes ++ row) =
-      sym (asked_append Open (Lines.line_tests bytes) row ∙ ap (λ (g : Gate). asked_all g row) (sym (header_gate bytes reads) ∙ e)) in
-      let same-boot : boot ≡ t.boot = eb ∙ ap (λ (h : Header). take h.boots (drop Lines.boot_place bytes)) reads in
-      let same-init : init ≡ t.init = ei ∙ ap (λ (h : Header). take h.inits (drop Lines.init_place bytes)) reads in
+      let gate : asked_all pass row ≡ asked_all pass (Lines.line_tests bytes ++ row) =
+      sym (asked_append pass (Lines.line_tests bytes) row ∙ ap (λ (g : Check). asked_all g row) (header_open bytes reads e).0) in
+      let same-boot : boot ≡ t.boot = eb ∙ ap (λ (h : Lengths). take h.boot_len (drop Lines.boot_place bytes)) (header_open bytes reads e).1 in
+      let same-init : init ≡ t.init = ei ∙ ap (λ (h : Lengths). take h.init_len (drop Lines.init_place bytes)) (header_open bytes reads e).1 in
       ap (λ (x : Memory). lines.plan_of (writing.bare boot init) x address) em
       ∙ ap (λ (x : List ℕ). lines.plan_of (writing.bare x init) m address) same-boot
       ∙ ap (λ (x : List ℕ). lines.plan_of (writing.bare t.boot x) m address) same-init
-      ∙ ap (λ (g : Gate). loading.behind_gate Refused g plan) gate
+      ∙ ap (λ (g : Check). loading.behind_gate Err g plan) gate
 
   -- the number of what loading it answers
-  pub plan_refused : {refusal : Refusal} {r : ℕ} → header.gate ≡ Shut refusal → r ≡ number_of refusal → r ≡ lines.line_number (Lines.load_plan bytes m address).answer
+  pub plan_refused : {refusal : Refusal} {r : ℕ} → read ≡ Err refusal → r ≡ number_of refusal → r ≡ lines.line_number (Lines.load_plan bytes m address).answer
   unfolding lines.line_number
-  plan_refused e er = er ∙ sym (ap (λ (p : loading.Plan Answer). lines.line_number p.answer) (refused_plan_lem e))
+  plan_refused e er = er ∙ sym (ap (λ (p : loading.Plan Check). lines.line_number p.answer) (refused_plan_lem e))
 
-  pub plan_told : {m' : Memory} {answer : Answer} {r : ℕ} {boot init : List ℕ} → header.gate ≡ Open
-      → boot ≡ take header.boots (drop Lines.boot_place bytes) → init ≡ take header.inits (drop Lines.init_place bytes) → m' ≡ m
-      → answer ≡ (lines.plan_of (writing.bare boot init) m' address).answer → r ≡ lines.line_number answer
+  pub plan_told : {header : Lengths} {m' : Memory} {answer : Check} {r : ℕ} {boot init : List ℕ} → read ≡ Ok header
+      → boot ≡ take header.boot_len (drop Lines.boot_place bytes) → init ≡ take header.init_len (drop Lines.init_place bytes) → m' ≡ m
+      → answer ≡ (lines.plan_of (writing.bare boot init) m' address).answer → r ≡ call_number answer
       → r ≡ lines.line_number (Lines.load_plan bytes m address).answer
-  plan_told e eb ei em ea er = er ∙ ap lines.line_number (ea ∙ ap (λ (p : loading.Plan Answer). p.answer) (texts_plan e eb ei em))
+  plan_told e eb ei em ea er = er ∙ same_number _ ∙ ap lines.line_number (ea ∙ ap (λ (p : loading.Plan Check). p.answer) (texts_plan e eb ei em))
 
-module _ (bytes : List ℕ) (address : ℕ) (map : Map) (guest : List ℕ) {header : Header} (reads : header ≡ Lines.header_by Open bytes) where
-  pub load_refused : {refusal : Refusal} {r : ℕ} → header.gate ≡ Shut refusal → r ≡ number_of refusal → Lines.LineLoadsFrom bytes address map guest r guest
+module _ (bytes : List ℕ) (address : ℕ) (map : Map) (guest : List ℕ) {read : Result Lengths Refusal} (reads : read ≡ Lines.header_of bytes) where
+  pub load_refused : {refusal : Refusal} {r : ℕ} → read ≡ Err refusal → r ≡ number_of refusal → Lines.LineLoadsFrom bytes address map guest r guest
   unfolding pour
   load_refused e er =
       let m = memory_of guest map in
       record {
         answer = plan_refused bytes m address reads e er;
-        memory = sym (ap (λ (p : loading.Plan Answer). pour p.stream guest) (refused_plan_lem bytes m address reads e));
+        memory = sym (ap (λ (p : loading.Plan Check). pour p.stream guest) (refused_plan_lem bytes m address reads e));
       }
 
-  pub load_told : {m : Map} {answer : Answer} {r : ℕ} {boot init after : List ℕ} → header.gate ≡ Open → boot ≡ take header.boots (drop Lines.boot_place bytes)
-      → init ≡ take header.inits (drop Lines.init_place bytes) → m ≡ map
+  pub load_told : {header : Lengths} {m : Map} {answer : Check} {r : ℕ} {boot init after : List ℕ} → read ≡ Ok header → boot ≡ take header.boot_len (drop Lines.boot_place bytes)
+      → init ≡ take header.init_len (drop Lines.init_place bytes) → m ≡ map
       → lines.LineLoads (writing.bare boot init) address m guest answer after
-      → r ≡ lines.line_number answer → Lines.LineLoadsFrom bytes address map guest r after
+      → r ≡ call_number answer → Lines.LineLoadsFrom bytes address map guest r after
   load_told e eb ei em loads er =
       let same = ap (memory_of guest) em in
       record {
         answer = plan_told bytes (memory_of guest map) address reads e eb ei same loads.answer er;
-        memory = loads.memory ∙ ap (λ (p : loading.Plan Answer). pour p.stream guest) (texts_plan bytes (memory_of guest map) address reads e eb ei same);
+        memory = loads.memory ∙ ap (λ (p : loading.Plan Check). pour p.stream guest) (texts_plan bytes (memory_of guest map) address reads e eb ei same);
       }

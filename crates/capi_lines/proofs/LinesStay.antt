@@ -1,17 +1,15 @@
 -- Bytes that hold a line hold one after every call on it, and so do bytes over which one is made: what one function leaves, the next accepts
 -- (`insert_stays` and its like, `new_stays`, `try_from_stays`). The texts that they then hold are those of the call's plan, or, where it is
 -- refused, those that they held (`call_texts`).
+use Rattle.std.specs.Prelude.{Ok, Err, Option}
 use Prim.Native.Nat.{ℕ, ◌≤◌}
 use mathlib.Core.Path.{◌≡◌, refl, ap, ◌∙◌, subst⁻¹}
 use mathlib.Core.List.{List, ◌∷◌}
 use native.Mathlib.Omega.{arith}
 use lib.ListN.{length}
 use borrow.Author.Tests.{eq-eqb}
-use Rattle.answers.specs.Tests.{asked_all, AllHold}
-use Rattle.answers.specs.declared.Gate.{Gate}
-use Rattle.answers.specs.declared.Gate.TheVariants.{Open, Shut}
+use Rattle.answers.specs.Tests.{asked_all, AllHold, Check, pass}
 use Rattle.answers.proofs.TestsLaws.{open_all, all_open, asked_append}
-use Rattle.cmdline.specs.declared.DeviceId.{DeviceId}
 use Rattle.cmdline.specs.Limit.{limit}
 use Rattle.cmdline.specs.Text.{Text}
 use Rattle.cmdline.specs.Fitting.{Fits, Short}
@@ -45,7 +43,7 @@ pub init_appends : (slug : List ℕ) → Lines.AppendsTo Lines.the_init (λ t. i
 unfolding insert_init_args
 init_appends slug = record { fits = λ t. init_fits t slug; extends = λ t. init_extends t slug; one = λ t. refl }
 
-pub device_appends : (size base irq : ℕ) (id : DeviceId) → Lines.AppendsTo Lines.the_boot (λ t. add_device t size base irq id)
+pub device_appends : (size base irq : ℕ) (id : Option ℕ) → Lines.AppendsTo Lines.the_boot (λ t. add_device t size base irq id)
 unfolding add_device insert_str
 device_appends size base irq id =
     record { fits = λ t. device_fits t size base irq id; extends = λ t. device_extends t size base irq id; one = λ t. refl }
@@ -88,15 +86,15 @@ module _ {part : Lines.Part} {plan : Text → Plan} (a : Lines.AppendsTo part pl
     left_is : left ≡ settled (plan_gate (plan t)) bytes (Lines.with_part part bytes (plan t).text)
     left_is =
         call.line
-        ∙ ap (λ (g : Gate). settled g bytes (Lines.with_part part bytes (plan t).text))
-        (asked_append Open (Lines.line_tests bytes) (plan t).tests ∙ ap (λ (g : Gate). asked_all g (plan t).tests) (all_open (Lines.line_tests bytes) is))
+        ∙ ap (λ (g : Check). settled g bytes (Lines.with_part part bytes (plan t).text))
+        (asked_append pass (Lines.line_tests bytes) (plan t).tests ∙ ap (λ (g : Check). asked_all g (plan t).tests) (all_open (Lines.line_tests bytes) is))
 
     left_holds : Lines.Holds left (settled (plan_gate (plan t)) t (plan t).text)
     left_holds = subst⁻¹ (λ (x : List ℕ). Lines.Holds x (settled (plan_gate (plan t)) t (plan t).text)) left_is (split (plan_gate (plan t)) refl)
       where
-        split : (g : Gate) → plan_gate (plan t) ≡ g → Lines.Holds (settled g bytes (Lines.with_part part bytes (plan t).text)) (settled g t (plan t).text)
-        split Open e = call_holds is (open_all (plan t).tests e)
-        split (Shut refusal) e = line_holds bytes is
+        split : (g : Check) → plan_gate (plan t) ≡ g → Lines.Holds (settled g bytes (Lines.with_part part bytes (plan t).text)) (settled g t (plan t).text)
+        split (Ok _) e = call_holds is (open_all (plan t).tests e)
+        split (Err refusal) e = line_holds bytes is
 
     pub call_texts : Lines.text_in left ≡ settled (plan_gate (plan t)) t (plan t).text
     call_texts = holds_text left (settled (plan_gate (plan t)) t (plan t).text) left_holds
@@ -104,11 +102,11 @@ module _ {part : Lines.Part} {plan : Text → Plan} (a : Lines.AppendsTo part pl
     pub call_stays : Lines.IsLine left
     call_stays = subst⁻¹ Lines.IsLine left_is (split (plan_gate (plan t)) refl)
       where
-        split : (g : Gate) → plan_gate (plan t) ≡ g → Lines.IsLine (settled g bytes (Lines.with_part part bytes (plan t).text))
-        split Open e =
+        split : (g : Check) → plan_gate (plan t) ≡ g → Lines.IsLine (settled g bytes (Lines.with_part part bytes (plan t).text))
+        split (Ok _) e =
             let hold = open_all (plan t).tests e in
             holds_line (Lines.with_part part bytes (plan t).text) (plan t).text (call_holds is hold) (a.fits t hold) (plan_short is hold).capacity
-        split (Shut refusal) e = is
+        split (Err refusal) e = is
 
 -- a making that is accepted
 made_holds : (bytes : List ℕ) (p : Plan) {r : ℕ} {left : List ℕ} → (AllHold p.tests → Fits p.text) → (AllHold p.tests → p.text.capacity ≤ limit)
@@ -116,7 +114,7 @@ made_holds : (bytes : List ℕ) (p : Plan) {r : ℕ} {left : List ℕ} → (AllH
 made_holds bytes p told most made size hold =
     subst⁻¹ (λ (x : List ℕ). Lines.Holds x p.text)
     (made.line
-    ∙ ap (λ (g : Gate). settled g bytes (Lines.new_line Lines.line_size p.text))
+    ∙ ap (λ (g : Check). settled g bytes (Lines.new_line Lines.line_size p.text))
     (all_open (Lines.size_test bytes ∷ p.tests) (eq-eqb (length bytes) Lines.line_size size, hold)))
     (new_holds p.text (fits_short p.text (told hold) (most hold)))
 
@@ -151,6 +149,6 @@ module _ (bytes : List ℕ) {r : ℕ} {left : List ℕ} where
       → Lines.IsLine left
   insert_init_args_stays slug = call_stays (init_appends slug) bytes
 
-  pub device_stays : (size base irq : ℕ) (id : DeviceId) → Lines.LineCalls Lines.the_boot bytes (add_device (Lines.text_in bytes) size base irq id) r left
+  pub device_stays : (size base irq : ℕ) (id : Option ℕ) → Lines.LineCalls Lines.the_boot bytes (add_device (Lines.text_in bytes) size base irq id) r left
       → Lines.IsLine bytes → Lines.IsLine left
   device_stays size base irq id = call_stays (device_appends size base irq id) bytes

@@ -1,4 +1,5 @@
 -- A line that is made here has zeros behind its texts (`new_zero`, `try_from_zero`), and every call on it keeps them (`insert_zero` and its like).
+use Rattle.std.specs.Prelude.{Ok, Err, Option}
 use Prim.Native.Nat.{ℕ, ◌+◌, ◌≤◌}
 use mathlib.Core.Path.{◌≡◌, refl, ap, ◌∙◌, subst, subst⁻¹}
 use mathlib.Core.List.{List, ◌∷◌, ◌++◌}
@@ -6,14 +7,11 @@ use native.Mathlib.Omega.{arith}
 use lib.ListN.{length, replicate}
 use lib.Seq.{sets}
 use borrow.Author.Tests.{eq-eqb}
-use Rattle.answers.specs.Tests.{asked_all, AllHold}
-use Rattle.answers.specs.declared.Gate.{Gate}
-use Rattle.answers.specs.declared.Gate.TheVariants.{Open, Shut}
+use Rattle.answers.specs.Tests.{asked_all, AllHold, Check, pass}
 use Rattle.answers.proofs.TestsLaws.{open_all, all_open, hold_left, hold_right}
 use Rattle.fields.specs.Numbers.{le_bytes}
 use Rattle.fields.proofs.CopyingLaws.{sets_below, sets_above}
 use Rattle.fields.proofs.NumbersLaws.{length_le_bytes}
-use Rattle.cmdline.specs.declared.DeviceId.{DeviceId}
 use Rattle.cmdline.specs.Limit.{limit}
 use Rattle.cmdline.specs.Text.{Text}
 use Rattle.cmdline.specs.Fitting.{Fits, Short}
@@ -98,7 +96,7 @@ made_zero : (bytes : List ℕ) (p : Plan) {r : ℕ} {left : List ℕ} → (AllHo
 made_zero bytes p told most made size hold =
     subst⁻¹ Lines.ZeroBehind
     (made.line
-    ∙ ap (λ (g : Gate). settled g bytes (Lines.new_line Lines.line_size p.text))
+    ∙ ap (λ (g : Check). settled g bytes (Lines.new_line Lines.line_size p.text))
     (all_open (Lines.size_test bytes ∷ p.tests) (eq-eqb (length bytes) Lines.line_size size, hold)))
     (new_line_zero p.text (fits_short p.text (told hold) (most hold)))
 
@@ -114,11 +112,11 @@ part_zero Lines.the_init bytes t u h z sb si mb mi one after =
 
 pub call_zero : {part : Lines.Part} {plan : Text → Plan} → Lines.AppendsTo part plan → (bytes : List ℕ) {r : ℕ} {left : List ℕ}
     → Lines.LineCalls part bytes (plan (Lines.text_in bytes)) r left → Lines.ZeroBehind bytes → Lines.ZeroBehind left
-call_zero {part} {plan} a bytes {r} {left} call z = split (asked_all Open (Lines.line_tests bytes ++ (plan (Lines.text_in bytes)).tests)) refl call
+call_zero {part} {plan} a bytes {r} {left} call z = split (asked_all pass (Lines.line_tests bytes ++ (plan (Lines.text_in bytes)).tests)) refl call
   where
-    split : (g : Gate) → asked_all Open (Lines.line_tests bytes ++ (plan (Lines.text_in bytes)).tests) ≡ g
+    split : (g : Check) → asked_all pass (Lines.line_tests bytes ++ (plan (Lines.text_in bytes)).tests) ≡ g
         → Lines.LineLeft g bytes (Lines.with_part part bytes (plan (Lines.text_in bytes)).text) r left → Lines.ZeroBehind left
-    split Open e v =
+    split (Ok _) e v =
         let all = open_all (Lines.line_tests bytes ++ (plan (Lines.text_in bytes)).tests) e in
         let is = hold_left (Lines.line_tests bytes) (plan (Lines.text_in bytes)).tests all in
         let hold = hold_right (Lines.line_tests bytes) (plan (Lines.text_in bytes)).tests all in
@@ -127,7 +125,7 @@ call_zero {part} {plan} a bytes {r} {left} call z = split (asked_all Open (Lines
         subst⁻¹ Lines.ZeroBehind v.line
         (part_zero part bytes (Lines.text_in bytes) (plan (Lines.text_in bytes)).text (line_holds bytes is) z short.boot short.init (begins_long grown.boot) (begins_long grown.init) (a.one (Lines.text_in bytes))
         (call_holds a bytes is hold))
-    split (Shut refusal) e v = subst⁻¹ Lines.ZeroBehind v.line z
+    split (Err refusal) e v = subst⁻¹ Lines.ZeroBehind v.line z
 
 -- ---- each function
 
@@ -155,6 +153,6 @@ module _ (bytes : List ℕ) {r : ℕ} {left : List ℕ} where
       → Lines.ZeroBehind bytes → Lines.ZeroBehind left
   insert_init_args_zero slug = call_zero (init_appends slug) bytes
 
-  pub device_zero : (size base irq : ℕ) (id : DeviceId) → Lines.LineCalls Lines.the_boot bytes (add_device (Lines.text_in bytes) size base irq id) r left
+  pub device_zero : (size base irq : ℕ) (id : Option ℕ) → Lines.LineCalls Lines.the_boot bytes (add_device (Lines.text_in bytes) size base irq id) r left
       → Lines.ZeroBehind bytes → Lines.ZeroBehind left
   device_zero size base irq id = call_zero (device_appends size base irq id) bytes

@@ -1,18 +1,14 @@
--- A line in lent bytes: what bytes hold a line, and what the entry points of a line answer and leave. What stands behind the texts has no part in
--- any of it.
-use Rattle.std.specs.Prelude.{ℕ, ◌+◌, ◌*◌, ◌≤◌, ◌<◌, ◌≡◌, List, [], ◌∷◌, ◌++◌, eqb, length, get_or, take, drop, replicate}
+-- A line in bytes: what bytes hold a line, and what the entry points of a line answer and leave. What is behind the
+-- texts has no part in any of it.
+use Rattle.answers.specs.declared.Refusal.{Refusal}
+use Rattle.std.specs.Prelude.{ℕ, ◌+◌, ◌*◌, ◌≤◌, ◌<◌, ◌≡◌, List, [], ◌∷◌, ◌++◌, eqb, length, get_or, take, drop, replicate, Ok, Err, Some, None, Option, Result}
+use Rattle.std.specs.Result.{result_and}
 use Rattle.std.proofs.lemmas.List.Edits.{sets}
 use Rattle.answers.specs.Pick.{pick}
 use Rattle.answers.specs.Catalogue.{number_of}
-use Rattle.answers.specs.Tests.{Test, asked_all, AllHold}
+use Rattle.answers.specs.Tests.{Test, asked_all, AllHold, Check, pass}
 use Rattle.answers.specs.declared.Refusal.TheVariants.{NoRoom}
-use Rattle.answers.specs.declared.Gate.{Gate}
-use Rattle.answers.specs.declared.Gate.TheVariants.{Open}
 use Rattle.fields.specs.Numbers.{le, le_bytes}
-use Rattle.cmdline.specs.declared.DeviceId.{DeviceId}
-use Rattle.cmdline.specs.declared.DeviceId.TheVariants.{Nothing, Number}
-use Rattle.cmdline.specs.declared.in_place.Appended.{Appended}
-use Rattle.cmdline.specs.declared.in_place.Appended.TheVariants as appended
 use Rattle.cmdline.specs.Limit.{limit}
 use Rattle.cmdline.specs.Text.{Text}
 use Rattle.cmdline.specs.Fitting.{Fits}
@@ -25,10 +21,8 @@ use Rattle.guest.specs.declared.Memory.{Memory}
 use Rattle.guest.specs.Loading as loading
 use Rattle.guest.specs.Room.{memory_of}
 use Rattle.guest.specs.Stream.{pour}
-use Rattle.loader.specs.declared.Answer as loader
-use Rattle.loader.specs.declared.Answer.TheVariants as loader_answer
 use Rattle.loader.specs.Lines as lines
-use Rattle.capi_lines.specs.declared.lines.Header.{Header}
+use Rattle.cmdline.specs.declared.sizes.Lengths.{Lengths}
 
 -- ---- the bytes of a line
 
@@ -48,7 +42,7 @@ abbrev pub text_in : List ℕ → Text
 text_in bytes =
     record { boot = take (le 8 bytes 0) (drop boot_place bytes); init = take (le 8 bytes 8) (drop init_place bytes); capacity = le 8 bytes 16 }
 
--- the size of lent bytes
+-- the size of the bytes
 abbrev pub size_test : List ℕ → Test
 size_test bytes = (eqb (length bytes) line_size, NoRoom)
 
@@ -81,9 +75,13 @@ pub record ZeroBehind (bytes : List ℕ) : Type 0 where
   pub boot : (i : ℕ) → le 8 bytes 0 ≤ i → i < limit → get_or bytes (boot_place + i) 0 ≡ 0
   pub init : (i : ℕ) → le 8 bytes 8 ≤ i → i < limit → get_or bytes (init_place + i) 0 ≡ 0
 
--- the numbers at the front, and how the tests of the bytes end
-unfoldable pub header_by : Gate → List ℕ → Header
-header_by gate bytes = record { gate = asked_all gate (line_tests bytes); boots = le 8 bytes 0; inits = le 8 bytes 8; capacity = le 8 bytes 16 }
+-- the numbers at the front
+abbrev pub lengths_in : List ℕ → Lengths
+lengths_in bytes = record { boot_len = le 8 bytes 0; init_len = le 8 bytes 8; capacity = le 8 bytes 16 }
+
+-- the numbers of bytes that are a line
+unfoldable pub header_of : List ℕ → Result Lengths Refusal
+header_of bytes = result_and (asked_all pass (line_tests bytes)) (Ok (lengths_in bytes))
 
 -- ---- bytes with another text
 
@@ -125,22 +123,26 @@ new_line n t = with_part the_init (with_part the_boot (sets (replicate n 0) 16 (
 -- ---- what a call says and leaves
 
 -- by how all of its tests end: the number of the answer, and the bytes, new where every test held and unchanged where one failed
-pub record LineLeft (gate : Gate) (bytes new : List ℕ) (r : ℕ) (left : List ℕ) : Type 0 where
+pub record LineLeft (gate : Check) (bytes new : List ℕ) (r : ℕ) (left : List ℕ) : Type 0 where
   pub answer : r ≡ call_number (answer_of gate)
   pub line : left ≡ settled gate bytes new
 
 -- a making, over bytes of the right size, whatever they hold
 abbrev pub LineMakes : List ℕ → Plan → ℕ → List ℕ → Type 0
-LineMakes bytes plan r left = LineLeft (asked_all Open (size_test bytes ∷ plan.tests)) bytes (new_line line_size plan.text) r left
+LineMakes bytes plan r left = LineLeft (asked_all pass (size_test bytes ∷ plan.tests)) bytes (new_line line_size plan.text) r left
 
 -- a call on the line that bytes hold, which appends to one of its texts: the tests of the bytes, then those of the call
 abbrev pub LineCalls : Part → List ℕ → Plan → ℕ → List ℕ → Type 0
-LineCalls part bytes plan r left = LineLeft (asked_all Open (line_tests bytes ++ plan.tests)) bytes (with_part part bytes plan.text) r left
+LineCalls part bytes plan r left = LineLeft (asked_all pass (line_tests bytes ++ plan.tests)) bytes (with_part part bytes plan.text) r left
 
--- a new line of two texts over all of the bytes
-abbrev pub Makes : Gate → List ℕ → ℕ → List ℕ → List ℕ → ℕ → List ℕ → Type 0
-Makes gate bytes capacity boot init r left =
-    LineLeft gate bytes (new_line (length bytes) (record { boot = boot; init = init; capacity = capacity })) r left
+-- how the tests of making a line of two texts end: the size of the bytes, then the capacity and the sizes of the texts
+abbrev pub make_gate : List ℕ → ℕ → List ℕ → List ℕ → Check
+make_gate bytes capacity boot init = asked_all pass (size_test bytes ∷ size_tests (length boot) (length init) capacity)
+
+-- a line of two texts is made over all of the bytes, if those tests hold
+pub record Makes (bytes : List ℕ) (capacity : ℕ) (boot init : List ℕ) (said : Check) (left : List ℕ) : Type 0 where
+  pub answer : said ≡ make_gate bytes capacity boot init
+  pub line : left ≡ settled (make_gate bytes capacity boot init) bytes (new_line (length bytes) (record { boot = boot; init = init; capacity = capacity }))
 
 -- a plan of which the texts fit where its tests hold, begin with what there was, and differ in one part alone
 pub record AppendsTo (part : Part) (plan : Text → Plan) : Type 0 where
@@ -149,21 +151,21 @@ pub record AppendsTo (part : Part) (plan : Text → Plan) : Type 0 where
   pub one : (t : Text) → (plan t).text ≡ with_one part t (plan t).text
 
 -- what is told of an insertion in place: the number of its answer, and the length of the new text at its place
-abbrev pub appended_number : Appended → ℕ
-appended_number (appended.Length n) = 0
-appended_number (appended.Refused refusal) = number_of refusal
+abbrev pub appended_number : Result ℕ Refusal → ℕ
+appended_number (Ok n) = 0
+appended_number (Err refusal) = number_of refusal
 
-abbrev pub appended_bytes : Appended → ℕ → List ℕ → List ℕ
-appended_bytes (appended.Length n) place bytes = sets bytes place (le_bytes 8 n)
-appended_bytes (appended.Refused refusal) place bytes = bytes
+abbrev pub appended_bytes : Result ℕ Refusal → ℕ → List ℕ → List ℕ
+appended_bytes (Ok n) place bytes = sets bytes place (le_bytes 8 n)
+appended_bytes (Err refusal) place bytes = bytes
 
-pub record StoresLength (said : Appended) (place : ℕ) (bytes : List ℕ) (r : ℕ) (left : List ℕ) : Type 0 where
+pub record StoresLength (said : Result ℕ Refusal) (place : ℕ) (bytes : List ℕ) (r : ℕ) (left : List ℕ) : Type 0 where
   pub answer : r ≡ appended_number said
   pub line : left ≡ appended_bytes said place bytes
 
 -- a device's ID: none where the flag is 0
-unfoldable pub id_by : ℕ → ℕ → DeviceId
-id_by flag id = pick (eqb flag 0) Nothing (Number id)
+unfoldable pub id_by : ℕ → ℕ → Option ℕ
+id_by flag id = pick (eqb flag 0) None (Some id)
 
 -- ---- writing
 
@@ -172,8 +174,8 @@ abbrev pub write_row : List ℕ → List ℕ → ℕ → List Test
 write_row bytes count room = ((eqb (length count) 1, NoRoom) ∷ line_tests bytes) ++ write_tests (text_in bytes) room
 
 -- how they end
-unfoldable pub line_write_gate : List ℕ → List ℕ → ℕ → Gate
-line_write_gate bytes count room = asked_all Open (write_row bytes count room)
+unfoldable pub line_write_gate : List ℕ → List ℕ → ℕ → Check
+line_write_gate bytes count room = asked_all pass (write_row bytes count room)
 
 pub record LineWrites (bytes out count : List ℕ) (r : ℕ) (out-left count_left : List ℕ) : Type 0 where
   pub answer : r ≡ written_number (written_of (line_write_gate bytes count (length out)) (text_in bytes))
@@ -183,8 +185,8 @@ pub record LineWrites (bytes out count : List ℕ) (r : ℕ) (out-left count_lef
 -- ---- comparing
 
 -- the list for the answer has one place; then the tests of the first line, then of the second
-unfoldable pub equal_gate : List ℕ → List ℕ → List ℕ → Gate
-equal_gate a b out = asked_all Open (((eqb (length out) 1, NoRoom) ∷ line_tests a) ++ line_tests b)
+unfoldable pub equal_gate : List ℕ → List ℕ → List ℕ → Check
+equal_gate a b out = asked_all pass (((eqb (length out) 1, NoRoom) ∷ line_tests a) ++ line_tests b)
 
 -- 1 where the lines are equal, else 0
 pub record LinesCompare (a b out : List ℕ) (r : ℕ) (left : List ℕ) : Type 0 where
@@ -194,9 +196,9 @@ pub record LinesCompare (a b out : List ℕ) (r : ℕ) (left : List ℕ) : Type 
 -- ---- loading
 
 -- the tests of the line, then the plan of loading it
-abbrev pub load_plan : List ℕ → Memory → ℕ → loading.Plan loader.Answer
+abbrev pub load_plan : List ℕ → Memory → ℕ → loading.Plan Check
 load_plan bytes m address =
-    loading.behind_tests loader_answer.Refused (line_tests bytes ++ lines.tests (text_in bytes) m address) (lines.line_plan (text_in bytes) address)
+    loading.behind_tests Err (line_tests bytes ++ lines.tests (text_in bytes) m address) (lines.line_plan (text_in bytes) address)
 
 pub record LineLoadsFrom (bytes : List ℕ) (address : ℕ) (map : Map) (guest : List ℕ) (r : ℕ) (after : List ℕ) : Type 0 where
   pub answer : r ≡ lines.line_number (load_plan bytes (memory_of guest map) address).answer

@@ -1,16 +1,20 @@
-// What a monitor links: the kernel command line under C names, in bytes that the caller lends.
-#![tactic(auto)]
+// What a monitor links: the kernel command line under C names, in bytes of the caller. C passes values and their ends
+// as two lists, and a map as a list of numbers. Each export matches on the `Result` of its tests: an inner function
+// with `?` would take all of the export's parameters again.
+#![tactic(auto, unfolding(answers::specs::Pick::pick, answers::specs::Tests::asked))]
 
 ghost use Rattle.std.specs.Prelude.{◌≡◌};
 ghost use Rattle.cmdline.specs.Insertion.{insert, insert_multiple, insert_str, insert_init_args};
 ghost use Rattle.cmdline.specs.Device.{add_device};
 ghost use Rattle.cmdline.specs.Making.{new, try_from};
 ghost use Rattle.guest.specs.Maps.{map_of};
-ghost use Rattle.capi_lines.specs.Lines.{text_in, the_boot, the_init, id_by, LineMakes, LineCalls, LineWrites, LinesCompare, LineLoadsFrom, plan_number};
+ghost use Rattle.capi_lines.specs.Lines.{text_in, the_boot, the_init, id_by, LineMakes, LineCalls, LineWrites};
+ghost use Rattle.capi_lines.specs.Lines.{LinesCompare, LineLoadsFrom, plan_number};
 
-use answers::{Gate, Refusal};
-use cmdline::{in_place, sizes, writing};
-use guest::{GuestAddress, Memory, maps};
+use answers::Refusal;
+use capi::{entries, results};
+use cmdline::{in_place, writing};
+use guest::{GuestAddress, maps};
 use slugs::{splitting, trimming};
 
 pub mod line_words;
@@ -21,10 +25,7 @@ mod lines;
 pub extern "C" fn rekusoyen_line_new(line: &mut [u8], capacity: u64) -> u32
     ensures { LineMakes line.old (new capacity) result line.new }
 {
-    let gate = answers::require(Gate::Open, line.len() == lines::SIZE, Refusal::NoRoom);
-    let allowed = sizes::is_capacity(capacity as usize);
-    let gate = answers::require(gate, allowed, Refusal::InvalidCapacity);
-    lines::make(line, gate, capacity, b"", b"")
+    results::check_number(lines::make(line, capacity, b"", b""))
 }
 
 // A line from its text, over whatever the bytes held.
@@ -35,9 +36,7 @@ pub extern "C" fn rekusoyen_line_try_from(line: &mut [u8], text: &[u8], capacity
     let at = splitting::split_at(text);
     let before = trimming::trimmed(&text[..at]);
     let after = trimming::trimmed(splitting::after(text, at));
-    let gate = answers::require(Gate::Open, line.len() == lines::SIZE, Refusal::NoRoom);
-    let gate = sizes::ask(gate, before.len(), after.len(), capacity as usize);
-    lines::make(line, gate, capacity, before, after)
+    results::check_number(lines::make(line, capacity, before, after))
 }
 
 // A key, an equals sign and a value, after the boot text.
@@ -45,16 +44,12 @@ pub extern "C" fn rekusoyen_line_try_from(line: &mut [u8], text: &[u8], capacity
 pub extern "C" fn rekusoyen_line_insert(line: &mut [u8], key: &[u8], value: &[u8]) -> u32
     ensures { LineCalls the_boot line.old (insert (text_in line.old) key.now value.now) result line.new }
 {
-    let header = lines::read_header(Gate::Open, line);
-    let gate = header.gate;
-    match gate {
-        Gate::Shut(refusal) => answers::number(refusal),
-        Gate::Open => {
+    match lines::read_header(line) {
+        Err(refusal) => u32::from(refusal),
+        Ok(lengths) => {
             let appended = in_place::insert(
                 &mut line[lines::BOOT..lines::INIT],
-                header.boots,
-                header.inits,
-                header.capacity,
+                lengths,
                 key,
                 value,
             );
@@ -63,7 +58,8 @@ pub extern "C" fn rekusoyen_line_insert(line: &mut [u8], key: &[u8], value: &[u8
     }
 }
 
-// A key, an equals sign and values joined by commas, after the boot text. The values stand one after the other, and `ends` has the end of each.
+// A key, an equals sign and values joined by commas, after the boot text. The values are one after the other, and
+// `ends` has the end of each.
 #[unsafe(no_mangle)]
 pub extern "C" fn rekusoyen_line_insert_multiple(
     line: &mut [u8],
@@ -71,18 +67,15 @@ pub extern "C" fn rekusoyen_line_insert_multiple(
     values: &[u8],
     ends: &[usize],
 ) -> u32
-    ensures { LineCalls the_boot line.old (insert_multiple (text_in line.old) key.now values.now ends.now) result line.new }
+    ensures { LineCalls the_boot line.old (insert_multiple (text_in line.old) key.now values.now ends.now) result
+        line.new }
 {
-    let header = lines::read_header(Gate::Open, line);
-    let gate = header.gate;
-    match gate {
-        Gate::Shut(refusal) => answers::number(refusal),
-        Gate::Open => {
+    match lines::read_header(line) {
+        Err(refusal) => u32::from(refusal),
+        Ok(lengths) => {
             let appended = in_place::insert_multiple(
                 &mut line[lines::BOOT..lines::INIT],
-                header.boots,
-                header.inits,
-                header.capacity,
+                lengths,
                 key,
                 values,
                 ends,
@@ -97,18 +90,10 @@ pub extern "C" fn rekusoyen_line_insert_multiple(
 pub extern "C" fn rekusoyen_line_insert_str(line: &mut [u8], slug: &[u8]) -> u32
     ensures { LineCalls the_boot line.old (insert_str (text_in line.old) slug.now) result line.new }
 {
-    let header = lines::read_header(Gate::Open, line);
-    let gate = header.gate;
-    match gate {
-        Gate::Shut(refusal) => answers::number(refusal),
-        Gate::Open => {
-            let appended = in_place::insert_str(
-                &mut line[lines::BOOT..lines::INIT],
-                header.boots,
-                header.inits,
-                header.capacity,
-                slug,
-            );
+    match lines::read_header(line) {
+        Err(refusal) => u32::from(refusal),
+        Ok(lengths) => {
+            let appended = in_place::insert_str(&mut line[lines::BOOT..lines::INIT], lengths, slug);
             lines::tell(line, lines::BOOTS, appended)
         }
     }
@@ -119,16 +104,12 @@ pub extern "C" fn rekusoyen_line_insert_str(line: &mut [u8], slug: &[u8]) -> u32
 pub extern "C" fn rekusoyen_line_insert_init_args(line: &mut [u8], slug: &[u8]) -> u32
     ensures { LineCalls the_init line.old (insert_init_args (text_in line.old) slug.now) result line.new }
 {
-    let header = lines::read_header(Gate::Open, line);
-    let gate = header.gate;
-    match gate {
-        Gate::Shut(refusal) => answers::number(refusal),
-        Gate::Open => {
+    match lines::read_header(line) {
+        Err(refusal) => u32::from(refusal),
+        Ok(lengths) => {
             let appended = in_place::insert_init_args(
                 &mut line[lines::INIT..lines::SIZE],
-                header.boots,
-                header.inits,
-                header.capacity,
+                lengths,
                 slug,
             );
             lines::tell(line, lines::INITS, appended)
@@ -146,19 +127,16 @@ pub extern "C" fn rekusoyen_line_add_virtio_mmio_device(
     has_id: u32,
     id: u32,
 ) -> u32
-    ensures { LineCalls the_boot line.old (add_device (text_in line.old) size address irq (id_by has_id id)) result line.new }
+    ensures { LineCalls the_boot line.old (add_device (text_in line.old) size address irq (id_by has_id id)) result
+        line.new }
 {
-    let device_id = lines::id_by(has_id, id);
-    let header = lines::read_header(Gate::Open, line);
-    let gate = header.gate;
-    match gate {
-        Gate::Shut(refusal) => answers::number(refusal),
-        Gate::Open => {
+    let device_id = (has_id != 0).then_some(id);
+    match lines::read_header(line) {
+        Err(refusal) => u32::from(refusal),
+        Ok(lengths) => {
             let appended = in_place::add_virtio_mmio_device(
                 &mut line[lines::BOOT..lines::INIT],
-                header.boots,
-                header.inits,
-                header.capacity,
+                lengths,
                 size,
                 GuestAddress(address),
                 irq,
@@ -169,7 +147,8 @@ pub extern "C" fn rekusoyen_line_add_virtio_mmio_device(
     }
 }
 
-// The text of the line and its closing zero, written to the start of `out`; how many bytes, the zero counted, into the one place of `count`.
+// The text of the line and its closing zero, written to the start of `out`; how many bytes, the zero counted, into
+// the one place of `count`.
 #[unsafe(no_mangle)]
 pub extern "C" fn rekusoyen_raw_line_as_cstring(
     line: &[u8],
@@ -178,14 +157,14 @@ pub extern "C" fn rekusoyen_raw_line_as_cstring(
 ) -> u32
     ensures { LineWrites line.now out.old count.old result out.new count.new }
 {
-    let gate = answers::require(Gate::Open, count.len() == 1, Refusal::NoRoom);
-    let header = lines::read_header(gate, line);
-    let gate = header.gate;
-    match gate {
-        Gate::Shut(refusal) => answers::number(refusal),
-        Gate::Open => {
-            let boot = lines::text_at(line, lines::BOOT, header.boots);
-            let init = lines::text_at(line, lines::INIT, header.inits);
+    if count.len() != 1 {
+        return u32::from(Refusal::NoRoom);
+    }
+    match lines::read_header(line) {
+        Err(refusal) => u32::from(refusal),
+        Ok(lengths) => {
+            let boot = lines::text_at(line, lines::BOOT, lengths.boot_len);
+            let init = lines::text_at(line, lines::INIT, lengths.init_len);
             let written = writing::as_cstring(out, boot, init);
             lines::tell_written(count, written)
         }
@@ -197,22 +176,23 @@ pub extern "C" fn rekusoyen_raw_line_as_cstring(
 pub extern "C" fn rekusoyen_raw_line_equal(a: &[u8], b: &[u8], out: &mut [u64]) -> u32
     ensures { LinesCompare a.now b.now out.old result out.new }
 {
-    let gate = answers::require(Gate::Open, out.len() == 1, Refusal::NoRoom);
-    let first = lines::read_header(gate, a);
-    let gate = first.gate;
-    let second = lines::read_header(gate, b);
-    let gate = second.gate;
-    match gate {
-        Gate::Shut(refusal) => answers::number(refusal),
-        Gate::Open => {
-            let boot = lines::text_at(a, lines::BOOT, first.boots);
-            let init = lines::text_at(a, lines::INIT, first.inits);
-            let boot2 = lines::text_at(b, lines::BOOT, second.boots);
-            let init2 = lines::text_at(b, lines::INIT, second.inits);
-            let same = writing::same_line(boot, init, boot2, init2);
-            out[0] = lines::flag(same);
-            0
-        }
+    if out.len() != 1 {
+        return u32::from(Refusal::NoRoom);
+    }
+    match lines::read_header(a) {
+        Err(refusal) => u32::from(refusal),
+        Ok(first) => match lines::read_header(b) {
+            Err(refusal) => u32::from(refusal),
+            Ok(second) => {
+                let boot = lines::text_at(a, lines::BOOT, first.boot_len);
+                let init = lines::text_at(a, lines::INIT, first.init_len);
+                let boot2 = lines::text_at(b, lines::BOOT, second.boot_len);
+                let init2 = lines::text_at(b, lines::INIT, second.init_len);
+                let same = writing::same_line(boot, init, boot2, init2);
+                out[0] = u64::from(same);
+                0
+            }
+        },
     }
 }
 
@@ -226,13 +206,11 @@ pub extern "C" fn rekusoyen_line_load(
 ) -> u32
     ensures { LineLoadsFrom line.now address (map_of map.now) guest.old result guest.new }
 {
-    let header = lines::read_header(Gate::Open, line);
-    let gate = header.gate;
-    match gate {
-        Gate::Shut(refusal) => answers::number(refusal),
-        Gate::Open => {
-            let boot = lines::text_at(line, lines::BOOT, header.boots);
-            let init = lines::text_at(line, lines::INIT, header.inits);
+    match lines::read_header(line) {
+        Err(refusal) => u32::from(refusal),
+        Ok(lengths) => {
+            let boot = lines::text_at(line, lines::BOOT, lengths.boot_len);
+            let init = lines::text_at(line, lines::INIT, lengths.init_len);
             let answer = loader::load_texts(
                 guest,
                 maps::from_numbers(map),
@@ -240,12 +218,12 @@ pub extern "C" fn rekusoyen_line_load(
                 boot,
                 init,
             );
-            lines::load_number(answer)
+            results::check_number(answer)
         }
     }
 }
 
-// What rekusoyen_line_load answers over guest memory of this size with this map. No guest memory is lent.
+// The answer of rekusoyen_line_load over guest memory of this size with this map, without that memory.
 #[unsafe(no_mangle)]
 pub extern "C" fn rekusoyen_line_plan(
     memory_size: u64,
@@ -255,19 +233,14 @@ pub extern "C" fn rekusoyen_line_plan(
 ) -> u32
     ensures { result ≡ plan_number line.now memory_size (map_of map.now) address }
 {
-    let header = lines::read_header(Gate::Open, line);
-    let gate = header.gate;
-    match gate {
-        Gate::Shut(refusal) => answers::number(refusal),
-        Gate::Open => {
-            let boot = lines::text_at(line, lines::BOOT, header.boots);
-            let init = lines::text_at(line, lines::INIT, header.inits);
-            let memory = Memory {
-                size: memory_size,
-                map: maps::from_numbers(map),
-            };
-            let answer = loader::plan_texts(memory, GuestAddress(address), boot, init);
-            lines::load_number(answer)
+    match lines::read_header(line) {
+        Err(refusal) => u32::from(refusal),
+        Ok(lengths) => {
+            let boot = lines::text_at(line, lines::BOOT, lengths.boot_len);
+            let init = lines::text_at(line, lines::INIT, lengths.init_len);
+            let memory = entries::memory_by(memory_size, map);
+            let answer = loader::plan_texts(&memory, GuestAddress(address), boot, init);
+            results::check_number(answer)
         }
     }
 }

@@ -1,3 +1,2 @@
-pub mod PagesLaws
 pub mod StartsLaws
 pub mod Outcomes

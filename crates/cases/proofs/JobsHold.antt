@@ -35,5 +35,5 @@ unfolding e1_job Cases.e1 Numbers.le_bytes
 e1_long = refl
 
 pub e1_prints : printed e1_job guest_size ≡ e1_lines
-unfolding e1_job Cases.e1 Pick.pick Tests.asked Numbers.le Numbers.le_bytes Ranges.lies_within Tags.tag_at Addresses.amount_of Addresses.is_given Loading.behind_tests Maps.ranges_from Maps.in_range Maps.in_ranges Maps.good_range Maps.good_ranges Maps.good_map Maps.every_second Maps.range_count Room.room Sizes.allowed Stream.pour Stream.stream_at Header.stand_within ProgramHeaders.header_at Survey.load_step Survey.note_step Survey.step_of Survey.first_found Survey.advanced Survey.survey_from Parts.header_part Parts.part_at Parts.part_of GuestParts.part_stream GuestParts.parts_from Answers.is_loaded Answers.pvh_code Answers.pvh_address Answers.pvh_place Answers.pvh_size Answers.answer_number Answers.answer_values Formats.answer_by Formats.count_by Formats.part_by Load.note_number Load.note_values Digits.digit Digits.digits_before Table.row_of Table.count_good Table.is_image Table.kinds_good Table.one_placed Table.two_placed Table.places_good Table.image_row Table.line_row Table.has_line Work.image_format Work.bodies_plan Work.job_plan Printing.pvh_text Printing.pvh_line Printing.answer_text
+unfolding e1_job Cases.e1 Pick.pick Tests.asked Numbers.le Numbers.le_bytes Ranges.lies_within Tags.tag_at Addresses.amount_of Addresses.is_given Loading.behind_tests Maps.ranges_from Maps.in_range Maps.in_ranges Maps.good_range Maps.good_ranges Maps.good_map Maps.every_second Maps.range_count Room.room Sizes.allowed Stream.pour Stream.stream_at Header.stand_within ProgramHeaders.header_at Survey.load_step Survey.note_step Survey.step_of Survey.first_found Survey.advanced Survey.survey_from Parts.header_part Parts.part_at Parts.part_of GuestParts.part_stream GuestParts.parts_from Answers.pvh_code Answers.pvh_address Answers.pvh_place Answers.pvh_size Answers.answer_number Answers.answer_values Formats.answer_by Formats.count_by Formats.part_by Load.note_number Load.note_values Digits.digit Digits.digits_before Table.row_of Table.count_good Table.is_image Table.kinds_good Table.one_placed Table.two_placed Table.places_good Table.image_row Table.line_row Table.has_line Work.image_format Work.bodies_plan Work.job_plan Printing.pvh_text Printing.pvh_line Printing.answer_text
 e1_prints = refl

@@ -1,5 +1,6 @@
 -- The worked cases that are to be proved, as one list: loads of an ELF image, note walks, and calls on a line.
-use Rattle.std.specs.Prelude.{ℕ, List, [], ◌∷◌, ◌++◌, replicate}
+use Rattle.guest.specs.declared.GuestAddress.{GuestAddress}
+use Rattle.std.specs.Prelude.{ℕ, List, [], ◌∷◌, ◌++◌, replicate, Some, None, Option}
 use Rattle.answers.specs.Catalogue.{number_of}
 use Rattle.answers.specs.declared.Refusal.{Refusal}
 use Rattle.answers.specs.declared.Refusal.TheVariants as refusal
@@ -8,14 +9,11 @@ use Rattle.guest.specs.Loading.{Plan}
 use Rattle.guest.specs.Maps.{map_of}
 use Rattle.guest.specs.Room.{memory_of, whole_of}
 use Rattle.guest.specs.Stream.{pour}
-use Rattle.guest.specs.declared.Given.{Given}
-use Rattle.guest.specs.declared.Given.TheVariants.{Nothing, At}
 use Rattle.elf.specs.Header.{magic}
 use Rattle.elf.specs.Notes.{xen}
 use Rattle.elf.specs.NoteWalk.{public_note}
 use Rattle.elf.specs.Load.{note_number, note_values}
-use Rattle.guest.specs.Answers.{pvh_code, answer_number, answer_values}
-use Rattle.guest.specs.declared.Answer.{Answer}
+use Rattle.guest.specs.Answers.{pvh_code, answer_number, answer_values, Answer}
 use Rattle.guest.specs.declared.PvhBootCapability.TheVariants.{PvhEntryIgnored}
 use Rattle.loads.specs.Formats.{plan_of}
 use Rattle.loads.specs.declared.Format.TheVariants.{Elf}
@@ -52,7 +50,7 @@ note = le_bytes 4 4 ++ le_bytes 4 4 ++ le_bytes 4 18 ++ xen ++ le_bytes 4 0x1000
 
 -- a load of e1 into so many zero bytes, the whole of them or with a map; a walk over the note with this file size; a line made and called at a capacity
 pub data Ask : Type 0 where
-  loads : ℕ → Given → Given → Ask
+  loads : ℕ → Option GuestAddress → Option GuestAddress → Ask
   loads_over : ℕ → List ℕ → Ask
   walks : ℕ → Ask
   lines : Making → List Call → ℕ → Ask
@@ -79,15 +77,15 @@ last_number (s ∷ (u ∷ ss)) = last_number (u ∷ ss)
 abbrev planned : Plan Answer → ℕ → Result
 planned plan size = record { number = answer_number plan.answer; values = answer_values plan.answer; left = pour plan.stream (zeros size) ∷ [] }
 
-abbrev elf_with : Given → Given → Options
+abbrev elf_with : Option GuestAddress → Option GuestAddress → Options
 elf_with offset highmem = record { format = Elf; kernel_offset = offset; highmem_start = highmem }
 
 unfoldable pub result_of : Ask → Result
 result_of (loads size offset highmem) = planned (plan_of e1 (whole_of size) (elf_with offset highmem)) size
-result_of (loads_over size numbers) = planned (plan_of e1 (memory_of (zeros size) (map_of numbers)) (elf_with Nothing Nothing)) size
+result_of (loads_over size numbers) = planned (plan_of e1 (memory_of (zeros size) (map_of numbers)) (elf_with None None)) size
 result_of (walks size) =
     let said = public_note note (record { 0 = 0 }) size in
-    record { number = note_number said.answer; values = note_values said.answer said.headers; left = [] }
+    record { number = note_number said; values = note_values said; left = [] }
 result_of (lines making calls capacity) =
     let after = run making calls capacity in
     record { number = last_number after.said; values = []; left = after.text.boot ∷ after.text.init ∷ [] }
@@ -98,8 +96,8 @@ pub record Case : Type 0 where
   pub ask : Ask
   pub want : Result
 
-abbrev at : ℕ → Given
-at address = At (record { 0 = address })
+abbrev at : ℕ → Option GuestAddress
+at address = Some (record { 0 = address })
 
 abbrev accepted : List ℕ → List (List ℕ) → Result
 accepted values left = record { number = 0; values = values; left = left }
@@ -134,12 +132,12 @@ quoted_part = 97 ∷ equals ∷ quote ∷ 120 ∷ space ∷ dash ∷ dash ∷ sp
 unfoldable pub cases : List Case
 cases =
     -- the image, with an offset, in memory that just holds its file bytes and in one byte less, and with highmem at its entry and above
-    record { ask = loads 32 Nothing Nothing; want = accepted (loaded 16 24) ((zeros 16 ++ body ++ zeros 13) ∷ []) }
-    ∷ record { ask = loads 32 (at 4) Nothing; want = accepted (loaded 20 28) ((zeros 20 ++ body ++ zeros 9) ∷ []) }
-    ∷ record { ask = loads 19 Nothing Nothing; want = accepted (loaded 16 24) ((zeros 16 ++ body) ∷ []) }
-    ∷ record { ask = loads 18 Nothing Nothing; want = refused refusal.ReadKernelImage (zeros 18 ∷ []) }
-    ∷ record { ask = loads 32 Nothing (at 16); want = accepted (loaded 16 24) ((zeros 16 ++ body ++ zeros 13) ∷ []) }
-    ∷ record { ask = loads 32 Nothing (at 17); want = refused refusal.InvalidEntryAddress (zeros 32 ∷ []) }
+    record { ask = loads 32 None None; want = accepted (loaded 16 24) ((zeros 16 ++ body ++ zeros 13) ∷ []) }
+    ∷ record { ask = loads 32 (at 4) None; want = accepted (loaded 20 28) ((zeros 20 ++ body ++ zeros 9) ∷ []) }
+    ∷ record { ask = loads 19 None None; want = accepted (loaded 16 24) ((zeros 16 ++ body) ∷ []) }
+    ∷ record { ask = loads 18 None None; want = refused refusal.ReadKernelImage (zeros 18 ∷ []) }
+    ∷ record { ask = loads 32 None (at 16); want = accepted (loaded 16 24) ((zeros 16 ++ body ++ zeros 13) ∷ []) }
+    ∷ record { ask = loads 32 None (at 17); want = refused refusal.InvalidEntryAddress (zeros 32 ∷ []) }
     -- over a map: a range that just holds the file bytes, two ranges with a hole inside them, and two that touch
     ∷ record { ask = loads_over 32 (0 ∷ 8 ∷ 16 ∷ 3 ∷ []); want = accepted (loaded 16 24) ((zeros 16 ++ body ++ zeros 13) ∷ []) }
     ∷ record { ask = loads_over 32 (0 ∷ 17 ∷ 18 ∷ 14 ∷ []); want = refused refusal.ReadKernelImage (zeros 32 ∷ []) }

@@ -1,6 +1,9 @@
 -- "A table or job that breaks any of this is 70, asked first": a job is refused with 70 exactly where it is not a good
 -- one, and prints `refused 70` (`bad_prints`). No refusal of a load, of `try_from` or of a line put into guest memory
 -- has that number.
+use Rattle.answers.specs.Tests.{Check}
+use Rattle.std.specs.Prelude.{Ok, Err, None}
+use Rattle.guest.specs.Answers.{Answer}
 use Prim.Native.Nat.{ℕ}
 use mathlib.Core.Path.{◌≡◌, refl, ap, subst}
 use mathlib.Core.List.{List, [], ◌∷◌, ◌++◌}
@@ -14,9 +17,6 @@ use Rattle.answers.proofs.ListingLaws.{first_listed, listed_left, listed_right}
 use Rattle.answers.proofs.PickLaws.{pick_with}
 use Rattle.guest.specs.Loading.{Plan}
 use Rattle.guest.specs.Room.{whole_of}
-use Rattle.guest.specs.declared.Answer.{Answer}
-use Rattle.guest.specs.declared.Answer.TheVariants.{Loaded, Refused}
-use Rattle.guest.specs.declared.Given.TheVariants.{Nothing}
 use Rattle.guest.specs.declared.KernelLoaderResult.{KernelLoaderResult}
 use Rattle.guest.specs.declared.Memory.{Memory}
 use Rattle.guest.proofs.LoadingLaws.{behind_with}
@@ -25,8 +25,6 @@ use Rattle.elf.proofs.ListedNumbers.{elf_listed}
 use Rattle.bzimage.specs.Answers.{bz_image_numbers}
 use Rattle.bzimage.proofs.Refusals.{bzimage_listed}
 use Rattle.cmdline.specs.Making.{try_from}
-use Rattle.loader.specs.declared.Answer as line_answer
-use Rattle.loader.specs.declared.Answer.TheVariants as line_says
 use Rattle.loader.specs.Lines as loader
 use Rattle.loader.proofs.Refusals.{line_listed}
 use Rattle.loads.specs.Formats.{answer_by}
@@ -42,50 +40,50 @@ use Rattle.desk.proofs.Verdicts.{only_bad_job}
 -- ---- what a good job answers: no refusal of an image or of a line has the number 70
 
 data ListedSaid : Answer → Type 0 where
-  loaded : {k : KernelLoaderResult} → ListedSaid (Loaded k)
-  refused : {r : Refusal} → Listed job_numbers r → ListedSaid (Refused r)
+  loaded : {k : KernelLoaderResult} → ListedSaid (Ok k)
+  refused : {r : Refusal} → Listed job_numbers r → ListedSaid (Err r)
 
 -- an image of either kind, by what its format refuses with
-by_format : (a : Answer) (numbers : List ℕ) → ((r : Refusal) → Listed numbers r → Listed job_numbers r) → ((r : Refusal) → a ≡ Refused r → Listed numbers r)
+by_format : (a : Answer) (numbers : List ℕ) → ((r : Refusal) → Listed numbers r → Listed job_numbers r) → ((r : Refusal) → a ≡ Err r → Listed numbers r)
     → ListedSaid a
-by_format (Loaded k) numbers among listed = loaded
-by_format (Refused r) numbers among listed = refused (among r (listed r refl))
+by_format (Ok k) numbers among listed = loaded
+by_format (Err r) numbers among listed = refused (among r (listed r refl))
 
-line_said : (kernel : KernelLoaderResult) (a : line_answer.Answer) → ((r : Refusal) → a ≡ line_says.Refused r → Listed (41 ∷ loader.line_numbers) r) → ListedSaid (with_line kernel a)
+line_said : (kernel : KernelLoaderResult) (a : Check) → ((r : Refusal) → a ≡ Err r → Listed (41 ∷ loader.line_numbers) r) → ListedSaid (with_line kernel a)
 unfolding with_line
-line_said kernel line_says.Loaded listed = loaded
-line_said kernel (line_says.Refused r) listed =
+line_said kernel (Ok _) listed = loaded
+line_said kernel (Err r) listed =
     refused (listed_right elf_numbers (bz_image_numbers ++ (41 ∷ loader.line_numbers)) r (listed_right bz_image_numbers (41 ∷ loader.line_numbers) r (listed r refl)))
 
 image_said : (kind : ℕ) (image : List ℕ) (m : Memory) → ListedSaid (image_plan kind image m).answer
 unfolding image_format answer_by
 image_said kind image m =
-    pick_with (λ (f : Format). ListedSaid (answer_by f image m Nothing Nothing)) (eqb kind 1)
-    (λ _. by_format (answer_by Elf image m Nothing Nothing) elf_numbers (λ r l. listed_left elf_numbers (bz_image_numbers ++ (41 ∷ loader.line_numbers)) r l)
-    (λ r e. elf_listed image m Nothing Nothing e))
-    (λ _. by_format (answer_by BzImage image m Nothing Nothing) bz_image_numbers
+    pick_with (λ (f : Format). ListedSaid (answer_by f image m None None)) (eqb kind 1)
+    (λ _. by_format (answer_by Elf image m None None) elf_numbers (λ r l. listed_left elf_numbers (bz_image_numbers ++ (41 ∷ loader.line_numbers)) r l)
+    (λ r e. elf_listed image m None None e))
+    (λ _. by_format (answer_by BzImage image m None None) bz_image_numbers
     (λ r l. listed_right elf_numbers (bz_image_numbers ++ (41 ∷ loader.line_numbers)) r (listed_left bz_image_numbers (41 ∷ loader.line_numbers) r l))
-    (λ r e. bzimage_listed image m Nothing Nothing e))
+    (λ r e. bzimage_listed image m None None e))
 
-line_listed_all : (text : List ℕ) (m : Memory) (at : ℕ) (r : Refusal) → (line_plan text m at).answer ≡ line_says.Refused r → Listed (41 ∷ loader.line_numbers) r
+line_listed_all : (text : List ℕ) (m : Memory) (at : ℕ) (r : Refusal) → (line_plan text m at).answer ≡ Err r → Listed (41 ∷ loader.line_numbers) r
 unfolding line_plan try_from row_listed contains
 line_listed_all text m at r =
-    behind_with line_says.Refused (try_from text line_capacity).tests (loader.plan_of (try_from text line_capacity).text m at)
-    (λ (p : Plan line_answer.Answer). p.answer ≡ line_says.Refused r → Listed (41 ∷ loader.line_numbers) r)
+    behind_with Err (try_from text line_capacity).tests (loader.plan_of (try_from text line_capacity).text m at)
+    (λ (p : Plan Check). p.answer ≡ Err r → Listed (41 ∷ loader.line_numbers) r)
     (λ _ e. listed_right (41 ∷ []) loader.line_numbers r (line_listed (try_from text line_capacity).text m at e))
     (λ s fails e. let same : ◌≡◌ {A = Refusal} s r = cc in subst (Listed (41 ∷ loader.line_numbers)) same (first_listed (41 ∷ loader.line_numbers) (try_from text line_capacity).tests refl fails))
 
 add_said : (said : Answer) (text : List ℕ) (m : Memory) → ListedSaid said → ListedSaid (add_plan said text m).answer
 unfolding add_plan
-add_said (Refused r) text m l = l
-add_said (Loaded kernel) text m l = line_said kernel (line_plan text m kernel.kernel_end.0).answer (line_listed_all text m kernel.kernel_end.0)
+add_said (Err r) text m l = l
+add_said (Ok kernel) text m l = line_said kernel (line_plan text m kernel.kernel_end.0).answer (line_listed_all text m kernel.kernel_end.0)
 
 bodies_said : (job : List ℕ) (m : Memory) → ListedSaid (bodies_plan job m).answer
 unfolding bodies_plan
 bodies_said job m =
     pick_with (λ (p : Plan Answer). ListedSaid p.answer) _ (λ _. add_said (job_image_plan job m).answer _ m (image_said _ _ m)) (λ _. image_said _ _ m)
 
-said_not_bad : {said : Answer} → ListedSaid said → said ≡ Refused BadJob → ⊥
+said_not_bad : {said : Answer} → ListedSaid said → said ≡ Err BadJob → ⊥
 unfolding contains
 said_not_bad (refused {r} l) e =
     let same : ◌≡◌ {A = Refusal} r BadJob = cc in let bad : Listed job_numbers BadJob = subst (Listed job_numbers) same l in let w : ◌≡◌ {A = ℕ} 0 1 = cc in absurd (omega arith)
@@ -93,16 +91,16 @@ said_not_bad (loaded {k}) e = let w : ◌≡◌ {A = ℕ} 0 1 = cc in absurd (om
 
 -- ---- 70 exactly where the job is not good
 
-pub bad_refused : (job : List ℕ) (m : Memory) → (GoodJob job → ⊥) → (job_plan job m).answer ≡ Refused BadJob
+pub bad_refused : (job : List ℕ) (m : Memory) → (GoodJob job → ⊥) → (job_plan job m).answer ≡ Err BadJob
 unfolding job_plan
 bad_refused job m bad =
-    behind_with Refused (job_tests job) (bodies_plan job m) (λ (p : Plan Answer). p.answer ≡ Refused BadJob) (λ hold. absurd (bad (tests_good job hold)))
-    (λ r fails. ap Refused (only_bad_job job fails))
+    behind_with Err (job_tests job) (bodies_plan job m) (λ (p : Plan Answer). p.answer ≡ Err BadJob) (λ hold. absurd (bad (tests_good job hold)))
+    (λ r fails. ap Err (only_bad_job job fails))
 
-pub refused_bad : (job : List ℕ) (m : Memory) → (job_plan job m).answer ≡ Refused BadJob → GoodJob job → ⊥
+pub refused_bad : (job : List ℕ) (m : Memory) → (job_plan job m).answer ≡ Err BadJob → GoodJob job → ⊥
 unfolding job_plan
 refused_bad job m =
-    behind_with Refused (job_tests job) (bodies_plan job m) (λ (p : Plan Answer). p.answer ≡ Refused BadJob → GoodJob job → ⊥)
+    behind_with Err (job_tests job) (bodies_plan job m) (λ (p : Plan Answer). p.answer ≡ Err BadJob → GoodJob job → ⊥)
     (λ hold e good. said_not_bad (bodies_said job m) e)
     (λ r fails e good. let opens = all_open (job_tests job) (good_tests job good) in let shuts = first_shut (job_tests job) r fails in let w : ◌≡◌ {A = ℕ} 0 1 = cc in absurd (omega arith))
 

@@ -1,5 +1,7 @@
 -- The tests of a job, which the code asks in its own order, hold exactly where the job is good, sentence by sentence
 -- (`GoodJob`); a good job prints what its bodies give (`good_prints`).
+use Rattle.std.specs.Prelude.{Err}
+use Rattle.guest.specs.Answers.{Answer}
 use Prim.Native.Nat.{ℕ, ◌+◌, ◌*◌, ◌≤◌}
 use mathlib.Core.Path.{◌≡◌, sym, ◌∙◌, refl, ap, subst, subst⁻¹}
 use mathlib.Core.Bool.{Bool, true, false, ◌&&◌, ◌||◌}
@@ -14,8 +16,6 @@ use Rattle.answers.specs.Tests.{AllHold}
 use Rattle.answers.proofs.BoolLaws.{both_held, hold_both, one_held, left_holds, right_holds}
 use Rattle.guest.specs.Loading.{Plan}
 use Rattle.guest.specs.Room.{whole_of}
-use Rattle.guest.specs.declared.Answer.{Answer}
-use Rattle.guest.specs.declared.Answer.TheVariants.{Refused}
 use Rattle.guest.proofs.LoadingLaws.{all_planned}
 use Rattle.desk.specs.Table.{image_row, most, count_of, row_of, first_row, second_row, count_good, is_image, kinds_good, one_placed, two_placed, places_good, job_tests}
 use Rattle.desk.specs.GoodJob.{rows_from, rows_of, table_size, is_line, is_kind, count_with, Bodies, no_rest, no_gap, GoodJob}
@@ -238,4 +238,4 @@ good_tests job good =
 pub good_prints : (job : List ℕ) (size : ℕ) → GoodJob job → printed job size ≡ answer_text (image_format (image_row job).kind) (bodies_plan job (whole_of size)).answer
 unfolding job_plan
 good_prints job size good =
-    ap (λ (p : Plan Answer). answer_text (image_format (image_row job).kind) p.answer) (all_planned Refused (job_tests job) (bodies_plan job (whole_of size)) (good_tests job good))
+    ap (λ (p : Plan Answer). answer_text (image_format (image_row job).kind) p.answer) (all_planned Err (job_tests job) (bodies_plan job (whole_of size)) (good_tests job good))

@@ -1,4 +1,6 @@
 -- The 80 bytes that are returned hold the whole text: what is printed of them is exactly what the job says.
+use Rattle.std.specs.Prelude.{Ok, Err}
+use Rattle.guest.specs.Answers.{Answer}
 use Prim.Native.Nat.{ℕ, zero, suc, ◌+◌, ◌%◌, ◌/◌, ◌≤◌, min}
 use mathlib.Core.Path.{◌≡◌, ap, ◌∙◌}
 use mathlib.Core.List.{List, [], ◌∷◌, ◌++◌}
@@ -9,8 +11,6 @@ use lib.Seq.{sets, sets-eq, take-append_seam}
 use Rattle.answers.specs.Catalogue.{number_of}
 use Rattle.answers.proofs.PickLaws.{pick_with}
 use Rattle.cmdline.specs.Digits.{digit, digits_before, decimal}
-use Rattle.guest.specs.declared.Answer.{Answer}
-use Rattle.guest.specs.declared.Answer.TheVariants.{Loaded, Refused}
 use Rattle.guest.specs.declared.PvhBootCapability.{PvhBootCapability}
 use Rattle.guest.specs.declared.PvhBootCapability.TheVariants.{PvhEntryPresent, PvhEntryNotPresent, PvhEntryIgnored}
 use Rattle.loads.specs.declared.Format.{Format}
@@ -46,8 +46,8 @@ pvh_line_few Arm64 pvh = omega arith
 
 text_few : (f : Format) (answer : Answer) → length (answer_text f answer) ≤ 80
 unfolding answer_text
-text_few f (Refused refusal) = let few = line_few refused_word (number_of refusal) in omega arith
-text_few f (Loaded kernel) =
+text_few f (Err refusal) = let few = line_few refused_word (number_of refusal) in omega arith
+text_few f (Ok kernel) =
     let load = kernel.kernel_load.0 in
     let end = kernel.kernel_end.0 in
     let first = line_few load_word load in

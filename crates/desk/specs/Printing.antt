@@ -1,11 +1,10 @@
 -- What a job prints: lines of text that say what came of it.
-use Rattle.std.specs.Prelude.{ℕ, min, List, [], ◌∷◌, ◌++◌, length, replicate}
+use Rattle.guest.specs.Answers.{Answer}
+use Rattle.std.specs.Prelude.{ℕ, min, List, [], ◌∷◌, ◌++◌, length, replicate, Ok, Err}
 use Rattle.std.proofs.lemmas.List.Edits.{sets}
 use Rattle.answers.specs.Catalogue.{number_of}
 use Rattle.cmdline.specs.Digits.{decimal}
 use Rattle.guest.specs.Room.{whole_of}
-use Rattle.guest.specs.declared.Answer.{Answer}
-use Rattle.guest.specs.declared.Answer.TheVariants.{Loaded, Refused}
 use Rattle.guest.specs.declared.PvhBootCapability.{PvhBootCapability}
 use Rattle.guest.specs.declared.PvhBootCapability.TheVariants.{PvhEntryPresent, PvhEntryNotPresent, PvhEntryIgnored}
 use Rattle.loads.specs.declared.Format.{Format}
@@ -58,10 +57,10 @@ pvh_line BzImage pvh = []
 pvh_line Arm64 pvh = []
 
 unfoldable pub answer_text : Format → Answer → List ℕ
-answer_text format (Loaded kernel) =
+answer_text format (Ok kernel) =
     number_line load_word kernel.kernel_load.0
     ++ (number_line end_word kernel.kernel_end.0 ++ pvh_line format kernel.pvh_boot_cap)
-answer_text format (Refused refusal) = number_line refused_word (number_of refusal)
+answer_text format (Err refusal) = number_line refused_word (number_of refusal)
 
 -- what a job prints that is done over so many bytes of guest memory
 abbrev pub printed : List ℕ → ℕ → List ℕ

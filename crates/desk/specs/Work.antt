@@ -1,11 +1,8 @@
 -- What a job does: the image is loaded, then the line is put at the kernel's end.
-use Rattle.std.specs.Prelude.{ℕ, ◌≡◌, List, ◌++◌, eqb, length, replicate}
+use Rattle.guest.specs.Answers.{Answer}
+use Rattle.std.specs.Prelude.{ℕ, ◌≡◌, List, ◌++◌, eqb, length, replicate, Ok, Err, None, is_ok}
 use Rattle.answers.specs.Pick.{pick}
-use Rattle.answers.specs.Tests.{asked_all, is_open}
-use Rattle.answers.specs.declared.Gate.TheVariants.{Open}
-use Rattle.guest.specs.declared.Answer.{Answer}
-use Rattle.guest.specs.declared.Answer.TheVariants.{Loaded, Refused}
-use Rattle.guest.specs.declared.Given.TheVariants.{Nothing}
+use Rattle.answers.specs.Tests.{asked_all, Check, pass}
 use Rattle.guest.specs.declared.KernelLoaderResult.{KernelLoaderResult}
 use Rattle.guest.specs.declared.Memory.{Memory}
 use Rattle.guest.specs.Loading.{Plan, Loads, behind_tests, refused_plan}
@@ -13,8 +10,6 @@ use Rattle.guest.specs.Room.{whole_of}
 use Rattle.guest.specs.Stream.{pour}
 use Rattle.cmdline.specs.Making.{try_from}
 use Rattle.loader.specs.Lines as loader
-use Rattle.loader.specs.declared.Answer as line_answer
-use Rattle.loader.specs.declared.Answer.TheVariants as line_says
 use Rattle.loads.specs.Formats.{plan_of}
 use Rattle.loads.specs.declared.Format.{Format}
 use Rattle.loads.specs.declared.Format.TheVariants.{Elf, BzImage}
@@ -32,7 +27,7 @@ image_format kind = pick (eqb kind 1) Elf BzImage
 
 -- it is loaded without an offset and without a start of high memory
 abbrev pub image_plan : ℕ → List ℕ → Memory → Plan Answer
-image_plan kind image m = plan_of image m (record { format = image_format kind; kernel_offset = Nothing; highmem_start = Nothing })
+image_plan kind image m = plan_of image m (record { format = image_format kind; kernel_offset = None; highmem_start = None })
 
 -- ---- the line
 
@@ -41,18 +36,18 @@ abbrev pub line_capacity : ℕ
 line_capacity = 4096
 
 -- the line is read from its text, and put at an address
-unfoldable pub line_plan : List ℕ → Memory → ℕ → Plan line_answer.Answer
-line_plan text m at = behind_tests line_says.Refused (try_from text line_capacity).tests (loader.plan_of (try_from text line_capacity).text m at)
+unfoldable pub line_plan : List ℕ → Memory → ℕ → Plan Check
+line_plan text m at = behind_tests Err (try_from text line_capacity).tests (loader.plan_of (try_from text line_capacity).text m at)
 
 -- the answer, if the line's is known
-unfoldable pub with_line : KernelLoaderResult → line_answer.Answer → Answer
-with_line kernel line_says.Loaded = Loaded kernel
-with_line kernel (line_says.Refused refusal) = Refused refusal
+unfoldable pub with_line : KernelLoaderResult → Check → Answer
+with_line kernel (Ok _) = Ok kernel
+with_line kernel (Err refusal) = Err refusal
 
 -- after an image that was refused there is no line; else it goes to the kernel's end
 unfoldable pub add_plan : Answer → List ℕ → Memory → Plan Answer
-add_plan (Refused refusal) text m = refused_plan Refused refusal
-add_plan (Loaded kernel) text m =
+add_plan (Err refusal) text m = refused_plan Err refusal
+add_plan (Ok kernel) text m =
     let plan = line_plan text m kernel.kernel_end.0 in record { answer = with_line kernel plan.answer; stream = plan.stream }
 
 -- ---- the job
@@ -71,7 +66,7 @@ bodies_plan job m =
 
 -- the tests of the job come first
 unfoldable pub job_plan : List ℕ → Memory → Plan Answer
-job_plan job m = behind_tests Refused (job_tests job) (bodies_plan job m)
+job_plan job m = behind_tests Err (job_tests job) (bodies_plan job m)
 
 -- the bodies of a job are loaded into guest memory that is all of a slice
 abbrev pub BodiesLoad : List ℕ → List ℕ → Answer → List ℕ → Type 0
@@ -80,7 +75,7 @@ BodiesLoad job before r after = Loads (bodies_plan job (whole_of (length before)
 -- guest memory after a job: cleared and loaded, or as it was where the job is not good
 abbrev pub memory_after : List ℕ → List ℕ → List ℕ
 memory_after job before =
-    pick (is_open (asked_all Open (job_tests job))) (pour (job_plan job (whole_of (length before))).stream (replicate (length before) 0)) before
+    pick (is_ok (asked_all pass (job_tests job))) (pour (job_plan job (whole_of (length before))).stream (replicate (length before) 0)) before
 
 -- a job is done over a slice that held `before`: it answers r and leaves `after`
 pub record Works (job before : List ℕ) (r : Answer) (after : List ℕ) : Type 0 where

@@ -1,6 +1,6 @@
 // A job of the desk program: an image, with or without a line, after a table of contents. The image is loaded into
 // 16,384 zero bytes, the line is put at the kernel's end, and a text says what came of it.
-#![tactic(auto)]
+#![tactic(auto, unfolding(answers::specs::Pick::pick, answers::specs::Tests::asked, crate::specs::Table::row_of, crate::specs::Table::is_image, crate::specs::Table::count_good, crate::specs::Table::kinds_good, crate::specs::Table::one_placed, crate::specs::Table::two_placed, crate::specs::Table::places_good, crate::specs::Table::image_row, crate::specs::Table::line_row, crate::specs::Table::has_line, crate::specs::Work::image_format, crate::specs::Printing::pvh_text, crate::specs::Printing::pvh_line, crate::specs::Printing::answer_text))]
 
 ghost use Rattle.std.specs.Prelude.{◌≡◌, length};
 ghost use Rattle.guest.specs.Loading.{Loads};
@@ -8,9 +8,8 @@ ghost use Rattle.guest.specs.Room.{whole_of};
 ghost use Rattle.desk.specs.Printing.{printed, output_of};
 ghost use Rattle.desk.specs.Work.{guest_size, image_format, image_plan, BodiesLoad, Works};
 
-use answers::Gate;
-use fields::copying;
-use guest::{Answer, Given, maps};
+use answers::Refusal;
+use guest::{KernelLoaderResult, maps};
 use loads::{Format, Options};
 
 mod lines;
@@ -21,13 +20,15 @@ mod telling;
 const GUEST: usize = 16384;
 
 // The text that a job prints, at the front of its bytes; the rest of them are 0.
+// Bytes with a length beside them, since there is no heap.
 #[derive(Clone, Copy)]
 pub struct Output {
     pub bytes: [u8; 80],
     pub length: usize,
 }
 
-// The format of an image of kind 1, ELF, or of another kind, bzImage.
+// The format of an image of kind 1, ELF, or of another kind, bzImage. It is no `TryFrom`, since every number has a
+// format (`image_format`), and no `From`, since `u64` and `Format` are of other crates.
 fn format_of(kind: u64) -> Format
     ensures { result ≡ image_format kind }
 {
@@ -39,42 +40,38 @@ fn format_of(kind: u64) -> Format
 }
 
 // Loads an image without an offset and without a start of high memory.
-fn load_image(guest: &mut [u8], kind: u64, image: &[u8]) -> Answer
+fn load_image(guest: &mut [u8], kind: u64, image: &[u8]) -> Result<KernelLoaderResult, Refusal>
     ensures { Loads (image_plan kind image.now (whole_of (length guest.old))) guest.old result guest.new }
 {
     let map = maps::whole(guest.len() as u64);
     let options = Options {
         format: format_of(kind),
-        kernel_offset: Given::Nothing,
-        highmem_start: Given::Nothing,
+        kernel_offset: None,
+        highmem_start: None,
     };
     loads::load(guest, map, image, options)
 }
 
-// The bodies of a job that is good: the image, and then the line if there is one.
-fn load_bodies(guest: &mut [u8], job: &[u8]) -> Answer
+// The bodies of a job that is good: the image is loaded, and then the line, if there is one, is put at the kernel's
+// end.
+fn load_bodies(guest: &mut [u8], job: &[u8]) -> Result<KernelLoaderResult, Refusal>
     ensures { BodiesLoad job.now guest.old result guest.new }
 {
-    let image = table::image(job);
-    let answer = load_image(guest, image.kind, table::body(job, image));
-    if !table::has_line(job) {
-        return answer;
+    let (image, line) = table::rows(job);
+    let kernel = load_image(guest, image.kind, table::body(job, image))?;
+    if table::has_line(job) {
+        lines::put(guest, kernel.kernel_end, table::body(job, line))?;
     }
-    lines::add(guest, answer, table::body(job, table::line(job)))
+    Ok(kernel)
 }
 
 // Does a job over a caller's bytes. They are cleared first; a job that is not good leaves them as they were.
-pub fn work(guest: &mut [u8], job: &[u8]) -> Answer
+pub fn work(guest: &mut [u8], job: &[u8]) -> Result<KernelLoaderResult, Refusal>
     ensures { Works job.now guest.old result guest.new }
 {
-    let gate = table::ask(job);
-    match gate {
-        Gate::Shut(refusal) => Answer::Refused(refusal),
-        Gate::Open => {
-            copying::clear(guest);
-            load_bodies(guest, job)
-        }
-    }
+    table::check(job)?;
+    guest.fill(0);
+    load_bodies(guest, job)
 }
 
 // Does a job over zero bytes of its own, and returns the text that says what came of it.
@@ -83,6 +80,6 @@ pub fn do_job(job: &[u8]) -> Output
 {
     let mut guest = [0u8; GUEST];
     let answer = work(&mut guest, job);
-    let image = table::image(job);
+    let (image, _) = table::rows(job);
     telling::tell(format_of(image.kind), answer)
 }

@@ -1,12 +1,13 @@
-// The text that tells what came of a job.
+// The text that says what came of a job.
 ghost use Rattle.std.specs.Prelude.{◌≡◌, [], ◌∷◌, ◌++◌, length};
 ghost use Rattle.cmdline.specs.Digits.{decimal};
 ghost use Rattle.slugs.specs.Stored.{Stored};
 ghost use Rattle.desk.specs.Printing.{number_line, pvh_text, pvh_line, answer_text, output_of};
 
 use crate::Output;
+use answers::Refusal;
 use cmdline::digits;
-use guest::{Answer, PvhBootCapability};
+use guest::{KernelLoaderResult, PvhBootCapability};
 use loads::Format;
 use slugs::buffers;
 
@@ -35,18 +36,17 @@ fn put_pvh(d: &mut [u8], at: usize, format: Format, pvh: PvhBootCapability) -> u
 {
     match format {
         Format::Elf => put_pvh_text(d, at, pvh),
-        Format::BzImage => buffers::put(d, at, b""),
-        Format::Arm64 => buffers::put(d, at, b""),
+        Format::BzImage | Format::Arm64 => buffers::put(d, at, b""),
     }
 }
 
 // The whole text, at the front of d; the place after it.
-fn put_answer(d: &mut [u8], format: Format, answer: Answer) -> usize
+fn put_answer(d: &mut [u8], format: Format, answer: Result<KernelLoaderResult, Refusal>) -> usize
     ensures { Stored d.old 0 (answer_text format answer) d.new result }
 {
     match answer {
-        Answer::Refused(refusal) => put_line(d, 0, b"refused ", answers::number(refusal) as u64),
-        Answer::Loaded(kernel) => {
+        Err(refusal) => put_line(d, 0, b"refused ", u64::from(u32::from(refusal))),
+        Ok(kernel) => {
             let at = put_line(d, 0, b"load ", kernel.kernel_load.0);
             let at = put_line(d, at, b"end ", kernel.kernel_end.0);
             let pvh = kernel.pvh_boot_cap;
@@ -55,13 +55,10 @@ fn put_answer(d: &mut [u8], format: Format, answer: Answer) -> usize
     }
 }
 
-pub(crate) fn tell(format: Format, answer: Answer) -> Output
+pub(crate) fn tell(format: Format, answer: Result<KernelLoaderResult, Refusal>) -> Output
     ensures { result ≡ output_of (answer_text format answer) }
 {
     let mut bytes = [0u8; 80];
     let length = put_answer(&mut bytes, format, answer);
-    Output {
-        bytes: bytes,
-        length: length,
-    }
+    Output { bytes, length }
 }

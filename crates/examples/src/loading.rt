@@ -1,159 +1,101 @@
-// Loads of images into zeros: what is answered, and guest memory after it.
-use crate::{images, printing};
+// Loads of images into zeros: what is returned, and guest memory after it.
+use crate::images;
+use crate::printing::{Guest, Load};
 use bzimage::header;
 use fields::numbers;
-use guest::{Given, GuestAddress, maps};
-use loads::formats::Kind;
-use loads::{Format, Options, formats};
+use guest::{GuestAddress, maps};
+use loads::{Options, formats};
 use std::io;
 
-// A load of an image of a format, into the whole of guest memory.
-fn load_as(
+// Loads an image, by its magic number, into the whole of guest memory.
+fn load(
     rt: &impl Print,
-    format: Format,
+    what: &str,
     image: &[u8],
+    kernel_offset: Option<u64>,
     guest: &mut [u8],
-    offset: Given,
 ) -> io::Result<()> {
+    print!(rt; "{what}:")?;
+    let Some(format) = formats::kind_of(image) else {
+        return println!(rt; " of no known format");
+    };
     let options = Options {
-        format: format,
-        kernel_offset: offset,
-        highmem_start: Given::Nothing,
+        format,
+        kernel_offset: kernel_offset.map(GuestAddress),
+        highmem_start: None,
     };
     let answer = loads::load(guest, maps::whole(guest.len() as u64), image, options);
-    printing::answer(rt, answer)?;
-    printing::guest(rt, guest)
+    println!(rt; "{}{}", Load(answer), Guest(guest))
 }
 
-// By its magic number.
-fn load(rt: &impl Print, image: &[u8], guest: &mut [u8], offset: Given) -> io::Result<()> {
-    let kind = formats::kind_of(image);
-    match kind {
-        Kind::Unknown => printing::word(rt, b" of no known format\n")?,
-        Kind::Is(format) => load_as(rt, format, image, guest, offset)?,
-    }
-    Ok(())
-}
-
-fn bzimage(rt: &impl Print, image: &mut [u8], offset: Given) -> io::Result<()> {
-    let mut guest = [0u8; 8];
-    images::put_bzimage(image);
-    load(rt, image, &mut guest, offset)
-}
-
-fn bzimage_shorter_than_its_setup(rt: &impl Print) -> io::Result<()> {
-    let mut image = [0u8; 2559];
-    printing::word(rt, b"bzImage, 0 sectors, 2559 bytes:")?;
-    bzimage(rt, &mut image, Given::Nothing)
-}
-
-fn bzimage_of_no_kernel(rt: &impl Print) -> io::Result<()> {
-    let mut image = [0u8; 2560];
-    printing::word(rt, b"bzImage, 0 sectors, 2560 bytes:")?;
-    bzimage(rt, &mut image, Given::Nothing)
-}
-
-fn bzimage_at_an_offset(rt: &impl Print) -> io::Result<()> {
-    let mut image = [0u8; 2563];
-    printing::word(rt, b"bzImage, 0 sectors, 2563 bytes, offset 4:")?;
-    bzimage(rt, &mut image, Given::At(GuestAddress(4)))
-}
-
-fn code32_start(rt: &impl Print, image: &mut [u8]) -> io::Result<()> {
-    images::put_bzimage(image);
-    let header = header::header_with(image, GuestAddress(0x1_0000_0004));
-    printing::word(
+fn bzimages(rt: &impl Print) -> io::Result<()> {
+    load(
         rt,
-        b"its setup header for load address 4294967300: code32_start",
+        "bzImage, 0 sectors, 2559 bytes",
+        &images::bzimage::<2559>(),
+        None,
+        &mut [0; 8],
     )?;
-    printing::number(rt, numbers::read_u32(&header, 0x23))?;
-    printing::word(rt, b"\n")
+    load(
+        rt,
+        "bzImage, 0 sectors, 2560 bytes",
+        &images::bzimage::<2560>(),
+        None,
+        &mut [0; 8],
+    )?;
+    let image = images::bzimage::<2563>();
+    load(
+        rt,
+        "bzImage, 0 sectors, 2563 bytes, offset 4",
+        &image,
+        Some(4),
+        &mut [0; 8],
+    )?;
+    let header = header::header_with(&image, GuestAddress(0x1_0000_0004));
+    let start = numbers::read_u32(&header, 0x23);
+    println!(rt; "its setup header for load address 4294967300: code32_start {start}")
 }
 
-fn setup_header(rt: &impl Print) -> io::Result<()> {
-    let mut image = [0u8; 2563];
-    code32_start(rt, &mut image)
+fn elf(rt: &impl Print, in_file: u64, in_memory: u64) -> io::Result<()> {
+    print!(rt; "ELF, one segment, ")?;
+    let image = images::elf(in_file, in_memory);
+    print!(rt; "{in_file} bytes in the file, ")?;
+    print!(rt; "{in_memory} in memory")?;
+    load(rt, "", &image, None, &mut [0; 32])
 }
 
-fn elf(rt: &impl Print, image: &mut [u8], in_file: u64, in_memory: u64) -> io::Result<()> {
-    let mut guest = [0u8; 32];
-    images::put_elf(image);
-    images::put_sizes(image, in_file, in_memory);
-    load(rt, image, &mut guest, Given::Nothing)
-}
-
-fn elf_of_sizes(rt: &impl Print, what: &[u8], in_file: u64, in_memory: u64) -> io::Result<()> {
-    let mut image = [0u8; 123];
-    printing::word(rt, what)?;
-    elf(rt, &mut image, in_file, in_memory)
-}
-
-fn arm64(rt: &impl Print, image: &mut [u8], size: u64, base: u64) -> io::Result<()> {
-    let mut guest = [0u8; 76];
-    images::put_arm64(image, size);
-    load(rt, image, &mut guest, Given::At(GuestAddress(base)))
-}
-
-fn arm64_of(rt: &impl Print, what: &[u8], size: u64, base: u64) -> io::Result<()> {
-    let mut image = [0u8; 68];
-    printing::word(rt, what)?;
-    arm64(rt, &mut image, size, base)
-}
-
-fn arm64_too_long(rt: &impl Print) -> io::Result<()> {
-    let mut image = [0u8; 69];
-    printing::word(rt, b"arm64 Image, 69 bytes, text offset 8:")?;
-    arm64(rt, &mut image, 128, 0)
-}
-
-fn arm64_too_short(rt: &impl Print) -> io::Result<()> {
-    let mut image = [0u8; 63];
-    printing::word(rt, b"arm64 Image, 63 bytes:")?;
-    arm64(rt, &mut image, 128, 0)
+fn arm64(rt: &impl Print, what: &str, size: u64, base: u64) -> io::Result<()> {
+    print!(rt; "arm64 Image, 68 bytes, text offset 8, ")?;
+    load(
+        rt,
+        what,
+        &images::arm64::<68>(size),
+        Some(base),
+        &mut [0; 76],
+    )
 }
 
 pub(crate) fn print(rt: &impl Print) -> io::Result<()> {
-    bzimage_shorter_than_its_setup(rt)?;
-    bzimage_of_no_kernel(rt)?;
-    bzimage_at_an_offset(rt)?;
-    setup_header(rt)?;
-    elf_of_sizes(
+    bzimages(rt)?;
+    elf(rt, 3, 8)?;
+    elf(rt, 0, 8)?;
+    elf(rt, 0, 0)?;
+    elf(rt, 3, 2)?;
+    arm64(rt, "image size 128", 128, 0)?;
+    arm64(rt, "image size 0", 0, 0)?;
+    arm64(rt, "base 1", 128, 1)?;
+    load(
         rt,
-        b"ELF, one segment, 3 bytes in the file, 8 in memory:",
-        3,
-        8,
+        "arm64 Image, 69 bytes, text offset 8",
+        &images::arm64::<69>(128),
+        Some(0),
+        &mut [0; 76],
     )?;
-    elf_of_sizes(
+    load(
         rt,
-        b"ELF, one segment, 0 bytes in the file, 8 in memory:",
-        0,
-        8,
-    )?;
-    elf_of_sizes(
-        rt,
-        b"ELF, one segment, 0 bytes in the file, 0 in memory:",
-        0,
-        0,
-    )?;
-    elf_of_sizes(
-        rt,
-        b"ELF, one segment, 3 bytes in the file, 2 in memory:",
-        3,
-        2,
-    )?;
-    arm64_of(
-        rt,
-        b"arm64 Image, 68 bytes, text offset 8, image size 128:",
-        128,
-        0,
-    )?;
-    arm64_of(
-        rt,
-        b"arm64 Image, 68 bytes, text offset 8, image size 0:",
-        0,
-        0,
-    )?;
-    arm64_of(rt, b"arm64 Image, 68 bytes, text offset 8, base 1:", 128, 1)?;
-    arm64_too_long(rt)?;
-    arm64_too_short(rt)
+        "arm64 Image, 63 bytes",
+        &images::arm64::<63>(128),
+        Some(0),
+        &mut [0; 76],
+    )
 }

@@ -1,6 +1,6 @@
 // Prints worked examples, a line each: `stdout` has what each is to say. Those that are proved are in the crate
 // `cases`.
-#![tactic(auto)]
+#![tactic(auto, unfolding(answers::specs::Pick::pick, answers::specs::Tests::asked))]
 
 use std::io;
 

@@ -1,66 +1,79 @@
-// Texts, numbers, bytes and what a load answers, as they are printed.
+// How results are printed. Each begins with a space.
 use answers::Refusal;
-use guest::{Answer, PvhBootCapability};
-use std::io;
-use std::io::Write;
+use guest::{KernelLoaderResult, PvhBootCapability};
+use std::fmt;
 
-pub(crate) fn word(rt: &impl Print, text: &[u8]) -> io::Result<()> {
-    io::writer(rt).write_all(text)
-}
+// A refusal, by its number.
+#[derive(Clone, Copy)]
+pub(crate) struct Refused(pub Refusal);
 
-// A space and a number.
-pub(crate) fn number(rt: &impl Print, n: u64) -> io::Result<()> {
-    print!(rt; " {n}")
-}
-
-pub(crate) fn refusal(rt: &impl Print, refusal: Refusal) -> io::Result<()> {
-    word(rt, b" refused")?;
-    number(rt, answers::number(refusal) as u64)
-}
-
-// Two hexadecimal digits for each byte.
-fn hex(rt: &impl Print, bytes: &[u8]) -> io::Result<()> {
-    for byte in bytes {
-        print!(rt; "{byte:02x}")?;
+impl fmt::Display for Refused {
+    fn fmt<W: fmt::Write>(&self, f: &mut fmt::Formatter<W>) -> fmt::Result {
+        write!(f, " refused {}", u32::from(self.0))
     }
-    Ok(())
 }
 
-// Guest memory, which ends the line.
-pub(crate) fn guest(rt: &impl Print, guest: &[u8]) -> io::Result<()> {
-    word(rt, b" guest ")?;
-    hex(rt, guest)?;
-    word(rt, b"\n")
-}
+// Guest memory: two hexadecimal digits for each byte.
+#[derive(Clone, Copy)]
+pub(crate) struct Guest<'a>(pub &'a [u8]);
 
-// A space and a number, for each.
-pub(crate) fn list(rt: &impl Print, list: &[u64]) -> io::Result<()> {
-    for n in list {
-        number(rt, *n)?;
-    }
-    Ok(())
-}
-
-fn pvh(rt: &impl Print, pvh: PvhBootCapability) -> io::Result<()> {
-    match pvh {
-        PvhBootCapability::PvhEntryIgnored => word(rt, b" pvh ignored"),
-        PvhBootCapability::PvhEntryNotPresent => word(rt, b" pvh none"),
-        PvhBootCapability::PvhEntryPresent(note) => {
-            word(rt, b" pvh")?;
-            number(rt, note.entry.0)
+impl fmt::Display for Guest<'_> {
+    fn fmt<W: fmt::Write>(&self, f: &mut fmt::Formatter<W>) -> fmt::Result {
+        f.write_str(" guest ")?;
+        for byte in self.0 {
+            write!(f, "{byte:02x}")?;
         }
+        Ok(())
     }
 }
 
-pub(crate) fn answer(rt: &impl Print, answer: Answer) -> io::Result<()> {
-    match answer {
-        Answer::Refused(r) => refusal(rt, r),
-        Answer::Loaded(kernel) => {
-            word(rt, b" load")?;
-            number(rt, kernel.kernel_load.0)?;
-            word(rt, b" end")?;
-            number(rt, kernel.kernel_end.0)?;
-            pvh(rt, kernel.pvh_boot_cap)
+// A list of numbers.
+#[derive(Clone, Copy)]
+pub(crate) struct List<'a>(pub &'a [u64]);
+
+impl fmt::Display for List<'_> {
+    fn fmt<W: fmt::Write>(&self, f: &mut fmt::Formatter<W>) -> fmt::Result {
+        for n in self.0 {
+            write!(f, " {n}")?;
+        }
+        Ok(())
+    }
+}
+
+// A text of ASCII bytes.
+#[derive(Clone, Copy)]
+pub(crate) struct Text<'a>(pub &'a [u8]);
+
+impl fmt::Display for Text<'_> {
+    fn fmt<W: fmt::Write>(&self, f: &mut fmt::Formatter<W>) -> fmt::Result {
+        f.write_str(" ")?;
+        for byte in self.0 {
+            f.write_char(char::from(*byte))?;
+        }
+        Ok(())
+    }
+}
+
+// What a load returns.
+#[derive(Clone, Copy)]
+pub(crate) struct Load(pub Result<KernelLoaderResult, Refusal>);
+
+impl fmt::Display for Load {
+    fn fmt<W: fmt::Write>(&self, f: &mut fmt::Formatter<W>) -> fmt::Result {
+        match self.0 {
+            Err(refusal) => write!(f, "{}", Refused(refusal)),
+            Ok(kernel) => {
+                write!(
+                    f,
+                    " load {} end {}",
+                    kernel.kernel_load.0, kernel.kernel_end.0
+                )?;
+                match kernel.pvh_boot_cap {
+                    PvhBootCapability::PvhEntryIgnored => f.write_str(" pvh ignored"),
+                    PvhBootCapability::PvhEntryNotPresent => f.write_str(" pvh none"),
+                    PvhBootCapability::PvhEntryPresent(note) => write!(f, " pvh {}", note.entry.0),
+                }
+            }
         }
     }
 }

@@ -6,14 +6,14 @@ use Rattle.capi_lines.proofs.LinesLaws.{call_refused, header_sized, str_called}
 use Rattle.capi_lines.proofs.rekusoyen_line_insert_str.Goals as goal
 
 pub slice_bounds-insert_str-end : goal.slice_bounds-insert_str-end
-slice_bounds-insert_str-end c = omega (arith, (header_sized c.args.line.now c.read_header-header.ensures c.in-Open.is).size)
+slice_bounds-insert_str-end c = omega (arith, (header_sized c.args.line.now c.read_header.ensures c.in-Ok.is).size)
 
-pub returns-in-Shut : goal.returns-in-Shut
-returns-in-Shut c =
+pub returns-in-Err : goal.returns-in-Err
+returns-in-Err c =
     let args = c.args in
-    call_refused args.line.now c.read_header-header.ensures the_boot (insert_str (text_in args.line.now) args.slug.now) c.in-Shut.is c.number.ensures
+    call_refused args.line.now c.read_header.ensures the_boot (insert_str (text_in args.line.now) args.slug.now) c.in-Err.is c.from.ensures
 
-pub returns-in-Open : goal.returns-in-Open
-returns-in-Open c =
+pub returns-in-Ok : goal.returns-in-Ok
+returns-in-Ok c =
     let args = c.args in
-    str_called args.line.now c.read_header-header.ensures c.in-Open.is args.slug.now c.insert_str-appended.ensures c.tell.ensures
+    str_called args.line.now c.read_header.ensures c.in-Ok.is args.slug.now c.insert_str-appended.ensures c.tell.ensures

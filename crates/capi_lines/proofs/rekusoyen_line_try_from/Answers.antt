@@ -1,4 +1,4 @@
--- `rekusoyen_line_try_from`: the two parts of the text; the size of the bytes and the sizes are tested, then the line is made.
+-- `rekusoyen_line_try_from`: the two parts of the text; then the line is made.
 use mathlib.Core.Path.{sym}
 use lib.Seq.{length-take-le}
 use Rattle.capi_lines.proofs.LinesLaws.{from_made}
@@ -11,4 +11,4 @@ pub returns : goal.returns
 returns c =
     let args = c.args in
     from_made args.line.now args.text.now args.capacity c.split_at-at.result c.trimmed-before.result.now c.trimmed-after.result.now c.after.result.now
-    c.split_at-at.ensures.0 c.trimmed-before.ensures c.trimmed-after.ensures c.after.ensures c.require-gate.ensures c.ask-gate.ensures c.make.ensures
+    c.split_at-at.ensures.0 c.trimmed-before.ensures c.trimmed-after.ensures c.after.ensures c.make.ensures c.check_number.ensures

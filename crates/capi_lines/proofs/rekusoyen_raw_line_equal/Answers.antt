@@ -1,23 +1,25 @@
--- `rekusoyen_raw_line_equal`: the tests of what is lent, then whether the lines are equal is told.
-use mathlib.Core.Path.{◌≡◌}
-use lib.ListN.{length}
-use native.Mathlib.Omega.{arith}
-use Rattle.capi_lines.proofs.LinesLaws.{equal_one, equal_refused, equal_told}
+-- `rekusoyen_raw_line_equal`: the size of the list, the tests of the two lines, and then whether they are equal is told.
+use Rattle.std.proofs.Common.{◌∙◌}
+use Rattle.capi_lines.proofs.LinesLaws.{equal_unsized, equal_first, equal_second, equal_told, flag}
 use Rattle.capi_lines.proofs.rekusoyen_raw_line_equal.Goals as goal
 
-pub bounds-out-0 : goal.bounds-out-0
-bounds-out-0 c =
-    let args = c.args in
-    let one : length args.out.now ≡ 1 = equal_one args.a.now args.b.now args.out.now c.require-gate.ensures c.read_header-first.ensures c.read_header-second.ensures c.in-Open.is in
-    omega (arith, one)
+pub returns-then-out-ne1 : goal.returns-then-out-ne1
+returns-then-out-ne1 c = let args = c.args in equal_unsized args.a.now args.b.now args.out.now c.if-out-ne1.true c.from.ensures
 
-pub returns-in-Shut : goal.returns-in-Shut
-returns-in-Shut c =
+pub returns-in-Err : goal.returns-in-Err
+returns-in-Err c =
     let args = c.args in
-    equal_refused args.a.now args.b.now args.out.now c.require-gate.ensures c.read_header-first.ensures c.read_header-second.ensures c.in-Shut.is c.number.ensures
+    equal_first args.a.now args.b.now args.out.now c.if-out-ne1.false c.read_header.ensures c.in-Err.is c.from-in-Err.ensures
 
-pub returns-in-Open : goal.returns-in-Open
-returns-in-Open c =
+pub returns-in-Err-read_header : goal.returns-in-Err-read_header
+returns-in-Err-read_header c =
     let args = c.args in
-    equal_told args.a.now args.b.now args.out.now c.require-gate.ensures c.read_header-first.ensures c.read_header-second.ensures c.in-Open.is
-    c.text_at-boot.ensures c.text_at-init.ensures c.text_at-boot2.ensures c.text_at-init2.ensures c.same_line-same.ensures c.flag.ensures
+    equal_second args.a.now args.b.now args.out.now c.if-out-ne1.false c.read_header.ensures c.in-Ok.is c.read_header-in-Ok.ensures
+    c.in-Err-read_header.is c.from-in-Err-read_header.ensures
+
+pub returns-in-Ok-read_header : goal.returns-in-Ok-read_header
+returns-in-Ok-read_header c =
+    let args = c.args in
+    equal_told args.a.now args.b.now args.out.now c.if-out-ne1.false c.read_header.ensures c.in-Ok.is c.read_header-in-Ok.ensures
+    c.in-Ok-read_header.is c.text_at-boot.ensures c.text_at-init.ensures c.text_at-boot2.ensures c.text_at-init2.ensures c.same_line-same.ensures
+    (c.from-in-Ok-read_header.ensures ∙ flag c.same_line-same.result)

@@ -11,4 +11,4 @@ pub returns : goal.returns
 returns c =
     let work = c.work-answer in
     job_output c.args.job.now (length-replicate {A = ℕ} guest_size 0)
-    (c.format_of.ensures ∙ ap (λ (row : Row). image_format row.kind) c.image-image.ensures) work.ensures.said c.tell.ensures
+    (c.format_of.ensures ∙ ap (λ (row : Row). image_format row.kind) c.rows.ensures.0) work.ensures.said c.tell.ensures

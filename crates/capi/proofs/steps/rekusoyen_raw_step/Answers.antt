@@ -1,16 +1,12 @@
--- `rekusoyen_raw_step`: the tests of the lists, then the step of the state that they hold, and what it reports.
-use Rattle.capi.proofs.StatesLaws.{call_refused, call_steps}
+-- `rekusoyen_raw_step`: a refused call leaves everything.
+use mathlib.Core.Path.{refl}
+use Rattle.capi.specs.States.{state_in, step_gate}
+use Rattle.capi.proofs.StatesLaws.{and_err, call_refused}
 use Rattle.guest.specs.Maps.{map_of}
 use Rattle.capi.proofs.steps.rekusoyen_raw_step.Goals as goal
 
-pub returns-in-Shut : goal.returns-in-Shut
-returns-in-Shut c =
+pub returns-in-Err : goal.returns-in-Err
+returns-in-Err c =
     let args = c.args in
-    call_refused args.image.now (map_of args.map.now) args.budget args.guest.now args.state.now args.step.now c.ask-gate.ensures
-    c.in-Shut.is c.number.ensures
-
-pub returns-in-Open : goal.returns-in-Open
-returns-in-Open c =
-    let args = c.args in
-    call_steps args.image.now (map_of args.map.now) args.budget args.guest.now args.state.now args.step.now c.ask-gate.ensures
-    c.in-Open.is c.from_numbers.ensures c.read-held.ensures c.step-stepped.ensures c.put_step.ensures
+    call_refused args.image.now (map_of args.map.now) args.budget args.guest.now args.state.now args.step.now refl
+    (and_err (step_gate args.state.now args.step.now) (state_in args.state.now) c.read.ensures c.in-Err.is) c.from.ensures

@@ -6,16 +6,16 @@ use Rattle.capi_boot.proofs.places.put_place.Goals as goal
 pub returns-then-out-ne1 : goal.returns-then-out-ne1
 returns-then-out-ne1 c =
     let args = c.args in
-    place_unsized args.found args.out.now c.if-out-ne1.true c.number.ensures
+    place_unsized args.found args.out.now c.if-out-ne1.true c.from.ensures
 
-pub returns-in-At : goal.returns-in-At
+pub returns-in-Some : goal.returns-in-Some
 unfolding found_number found_values
-returns-in-At c =
+returns-in-Some c =
     let args = c.args in
-    place_sized args.found args.out.now c.if-out-ne1.false (rw c.in-At.is) (rw c.in-At.is)
+    place_sized args.found args.out.now c.if-out-ne1.false (rw c.in-Some.is) (rw c.in-Some.is)
 
-pub returns-in-Nothing : goal.returns-in-Nothing
+pub returns-in-None : goal.returns-in-None
 unfolding found_number found_values
-returns-in-Nothing c =
+returns-in-None c =
     let args = c.args in
-    place_sized args.found args.out.now c.if-out-ne1.false (rw c.in-Nothing.is c.number-in-Nothing.ensures) (rw c.in-Nothing.is)
+    place_sized args.found args.out.now c.if-out-ne1.false (rw c.in-None.is c.from-in-None.ensures) (rw c.in-None.is)

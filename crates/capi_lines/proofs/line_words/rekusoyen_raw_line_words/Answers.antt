@@ -5,7 +5,7 @@ use Rattle.capi_lines.proofs.line_words.rekusoyen_raw_line_words.Goals as goal
 pub returns-then-out-ne1 : goal.returns-then-out-ne1
 returns-then-out-ne1 c =
     let args = c.args in
-    words_unsized args.text.now args.starts.now args.ends.now args.splits.now args.out.now c.if-out-ne1.true c.number.ensures
+    words_unsized args.text.now args.starts.now args.ends.now args.splits.now args.out.now c.if-out-ne1.true c.from.ensures
 
 pub returns : goal.returns
 returns c =

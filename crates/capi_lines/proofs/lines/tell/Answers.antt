@@ -2,8 +2,8 @@
 use mathlib.Core.Path.{refl}
 use Rattle.capi_lines.proofs.lines.tell.Goals as goal
 
-pub returns-in-Refused : goal.returns-in-Refused
-returns-in-Refused c = rw c.in-Refused.is (record { answer = c.number.ensures; line = refl })
+pub returns-in-Err : goal.returns-in-Err
+returns-in-Err c = rw c.in-Err.is (record { answer = c.from.ensures; line = refl })
 
-pub returns-in-Length : goal.returns-in-Length
-returns-in-Length c = rw c.in-Length.is (record { answer = refl; line = c.put_le.ensures })
+pub returns-in-Ok : goal.returns-in-Ok
+returns-in-Ok c = rw c.in-Ok.is (record { answer = refl; line = c.put_le.ensures })

@@ -3,10 +3,10 @@ use mathlib.Core.Path.{refl}
 use Rattle.cmdline.specs.Writing.{written_count}
 use Rattle.capi_lines.proofs.lines.tell_written.Goals as goal
 
-pub returns-in-Bytes : goal.returns-in-Bytes
+pub returns-in-Ok : goal.returns-in-Ok
 unfolding written_count
-returns-in-Bytes c = rw c.in-Bytes.is (record { answer = refl; told = refl })
+returns-in-Ok c = rw c.in-Ok.is (record { answer = refl; told = refl })
 
-pub returns-in-Refused : goal.returns-in-Refused
+pub returns-in-Err : goal.returns-in-Err
 unfolding written_count
-returns-in-Refused c = rw c.in-Refused.is (record { answer = c.number.ensures; told = refl })
+returns-in-Err c = rw c.in-Err.is (record { answer = c.from.ensures; told = refl })

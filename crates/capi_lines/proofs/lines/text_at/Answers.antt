@@ -14,4 +14,4 @@ slice_bounds-result-end c = sym (length-take-le _ _ (search rules))
 pub returns : goal.returns
 returns c =
     let args = c.args in
-    text_read args.place args.n args.bytes.now {rest = mid_of c.lesser-from.result (length args.bytes.now - c.lesser-from.result) args.bytes.now} c.lesser-from.ensures refl c.lesser-end.ensures refl
+    text_read args.place args.n args.bytes.now {rest = mid_of c.min.result (length args.bytes.now - c.min.result) args.bytes.now} c.min.ensures refl c.min-2.ensures refl

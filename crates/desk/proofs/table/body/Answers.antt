@@ -3,4 +3,4 @@ use Rattle.desk.proofs.TableLaws.{body_part}
 use Rattle.desk.proofs.table.body.Goals as goal
 
 pub returns : goal.returns
-returns c = body_part c.args.job.now c.args.row.place.0 c.args.row.size c.lesser-from.ensures c.lesser.ensures
+returns c = body_part c.args.job.now c.args.row.place.0 c.args.row.size c.min-from.ensures c.min.ensures
