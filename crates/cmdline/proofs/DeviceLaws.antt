@@ -16,19 +16,19 @@ use Rattle.cmdline.proofs.DeviceFits.{decimal_few}
 -- ---- a size
 
 module _ (n : ℕ) where
-  size_G : n % 0x40000000 ≡ 0 → size_text n ≡ decimal (n / 0x40000000) ++ (71 ∷ [])
+  pub size_G : n % 0x40000000 ≡ 0 → size_text n ≡ decimal (n / 0x40000000) ++ (71 ∷ [])
   unfolding size_text pick
   size_G e = rw (eq-eqb (n % 0x40000000) 0 e)
 
-  size_M : (n % 0x40000000 ≡ 0 → ⊥) → n % 0x100000 ≡ 0 → size_text n ≡ decimal (n / 0x100000) ++ (77 ∷ [])
+  pub size_M : (n % 0x40000000 ≡ 0 → ⊥) → n % 0x100000 ≡ 0 → size_text n ≡ decimal (n / 0x100000) ++ (77 ∷ [])
   unfolding size_text pick
   size_M z e = rw (ne_eqb (n % 0x40000000) 0 z, eq-eqb (n % 0x100000) 0 e)
 
-  size_K : (n % 0x40000000 ≡ 0 → ⊥) → (n % 0x100000 ≡ 0 → ⊥) → n % 0x400 ≡ 0 → size_text n ≡ decimal (n / 0x400) ++ (75 ∷ [])
+  pub size_K : (n % 0x40000000 ≡ 0 → ⊥) → (n % 0x100000 ≡ 0 → ⊥) → n % 0x400 ≡ 0 → size_text n ≡ decimal (n / 0x400) ++ (75 ∷ [])
   unfolding size_text pick
   size_K z y e = rw (ne_eqb (n % 0x40000000) 0 z, ne_eqb (n % 0x100000) 0 y, eq-eqb (n % 0x400) 0 e)
 
-  size_plain : (n % 0x40000000 ≡ 0 → ⊥) → (n % 0x100000 ≡ 0 → ⊥) → (n % 0x400 ≡ 0 → ⊥) → size_text n ≡ decimal n
+  pub size_plain : (n % 0x40000000 ≡ 0 → ⊥) → (n % 0x100000 ≡ 0 → ⊥) → (n % 0x400 ≡ 0 → ⊥) → size_text n ≡ decimal n
   unfolding size_text pick
   size_plain z y x = rw (ne_eqb (n % 0x40000000) 0 z, ne_eqb (n % 0x100000) 0 y, ne_eqb (n % 0x400) 0 x)
 

@@ -1,23 +1,15 @@
 -- Laws of the whole text of a line.
-use Rattle.std.specs.Prelude.{Ok, Err, Result, Option, Some, None, MatchOption, IfSome}
-use Rattle.std.specs.Iterator.{AlwaysYields, YieldsThen, ComparesItemsByEq}
-use Rattle.std.specs.List.{AllZip}
-use Rattle.std.specs.Iterator.Adapters.{chain_first, chain_second, chain_first_done, chain_second_done, chain_steps}
-use Rattle.std.specs.Slice.Iter.{iter_rest}
-use Rattle.std.specs.declared.iter.Chain.{Chain}
-use Rattle.std.proofs.Common.{Iter}
-use Rattle.std.proofs.iter.Yields.{fronts}
-use Rattle.std.proofs.lemmas.Iterator.{YieldsList, YieldsList-from_slice}
-use Rattle.std.proofs.lemmas.Iterator.Consumers.{YieldsList-from_chain}
-use Prim.Native.Nat.{ℕ, ◌+◌, ◌≤◌, min}
-use mathlib.Core.Path.{◌≡◌, refl, sym, ap, ap₂, subst, ◌∙◌}
+use Rattle.std.specs.Prelude.{Ok, Err, Result}
+use Prim.Native.Nat.{ℕ, ◌+◌, ◌-◌, ◌^◌, ◌≤◌, ◌<◌, min}
+use mathlib.Core.Path.{◌≡◌, refl, sym, ap, ◌∙◌}
 use mathlib.Core.Bool.{Bool, true, false, not, ◌&&◌, ◌||◌}
 use mathlib.Core.List.{List, [], ◌∷◌, ◌++◌, append-nil, append_assoc}
 use native.Mathlib.Omega.{arith}
 use native.Mathlib.Decide.{dec_le, ℕ_discrete}
 use lib.Dec.{leb, eqb}
-use lib.ListN.{length, take, length-append, length-take}
-use lib.Seq.{sets, take_all}
+use lib.Pointwise.{pointwise}
+use lib.ListN.{length, take, drop, get_or, length-append, length-take, get_or-append}
+use lib.Seq.{sets, take_all, get_or-append-add}
 use borrow.Author.Tests.{leb-true, eq-eqb, ne_eqb}
 use Rattle.answers.specs.Pick.{pick}
 use Rattle.answers.specs.Tests.{Test, asked, asked_all, Check, pass}
@@ -28,9 +20,10 @@ use Rattle.slugs.specs.Bytes.{has}
 use Rattle.slugs.specs.Stored.{Stored}
 use Rattle.cmdline.specs.Limit.{limit}
 use Rattle.cmdline.specs.Text.{Text, size_of}
-use Rattle.cmdline.specs.SameLaws.{same_list}
+use Rattle.cmdline.specs.SameLaws.{same_list, list_same}
 use Rattle.cmdline.specs.Writing.{bare, whole_line, separator_before, headed, text_tests, write_gate, written_of, written_bytes, Writes, same_bytes, same_line}
 use Rattle.slugs.proofs.BytesLaws.{has_append}
+use Rattle.slugs.proofs.ListLaws.{here, gone}
 use Rattle.slugs.specs.Splitting.{separator}
 
 -- ---- with init text and without
@@ -117,62 +110,94 @@ whole_parts b i = split (ℕ_discrete (length i) 0)
     split (yes z) = rw (eq-eqb (length i) 0 z, empty_list i z) (append-nil (b ++ []))
     split (no z) = rw (ne_eqb (length i) 0 z) (append_assoc b separator i)
 
--- ---- two texts, item by item
+-- ---- the byte at a place of it
 
-module _ {S T A : Type 0} (steps : S → Option A → S → Type 0) (others : T → Option A → T → Type 0) (v : A → ℕ) (eq : A → A → Bool)
-    (agree : (x y : A) → eq x y ≡ eqb (v x) (v y)) (r : Bool) where
-  abbrev Last : Option A → Option A → Type 0
-  Last o p = MatchOption o (MatchOption p (r ≡ true) (λ _. r ≡ false)) (λ x. (r ≡ false) × IfSome p (λ y. eq x y ≡ false))
+module _ (b i : List ℕ) where
+  -- a place past the boot text says that there is init text
+  past_some : (k : ℕ) → k < length (whole_line b i) → length b ≤ k → length i ≡ 0 → ⊥
+  past_some k h p z = let w = none_long b i z in omega arith
 
-  at_last : (o p : Option A) (xs ys : List ℕ) (s u : S) (t w : T) → AlwaysYields steps v s xs → AlwaysYields others v t ys → steps s o u → others t p w
-      → Last o p → r ≡ same_bytes xs ys
+  pub at_boot : (k : ℕ) → k < length b → get_or b k 0 ≡ get_or (whole_line b i) k 0
+  unfolding whole_line
+  at_boot k h = sym (get_or-append b (pick (eqb (length i) 0) [] (separator ++ i)) 0 k h)
+
+  past : (k : ℕ) → k < length (whole_line b i) → length b ≤ k → get_or (whole_line b i) k 0 ≡ get_or (separator ++ i) (k - length b) 0
+  past k h p =
+      let q : k ≡ length b + (k - length b) = omega arith in
+      rw (whole_some b i (past_some k h p)) (ap (λ (m : ℕ). get_or (b ++ (separator ++ i)) m 0) q ∙ get_or-append-add b (separator ++ i) (k - length b) 0)
+
+  pub at_separator : (k : ℕ) → k < length (whole_line b i) → length b ≤ k → k - length b < 4
+      → get_or separator (k - length b) 0 ≡ get_or (whole_line b i) k 0
+  at_separator k h p l = sym (past k h p ∙ get_or-append separator i 0 (k - length b) l)
+
+  pub at_init : (k : ℕ) → k < length (whole_line b i) → length b ≤ k → 4 ≤ k - length b
+      → get_or i (k - length b - 4) 0 ≡ get_or (whole_line b i) k 0
+  at_init k h p l =
+      let q : k - length b ≡ 4 + (k - length b - 4) = omega arith in
+      sym (past k h p ∙ ap (λ (m : ℕ). get_or (separator ++ i) m 0) q ∙ get_or-append-add separator i (k - length b - 4) 0)
+
+pub whole_most : (b i : List ℕ) → length (whole_line b i) ≤ length b + 4 + length i
+whole_most b i = split (ℕ_discrete (length i) 0)
+  where
+    split : Dec (length i ≡ 0) → length (whole_line b i) ≤ length b + 4 + length i
+    split (yes z) = let w = none_long b i z in omega arith
+    split (no z) = let w = some_long b i z in omega arith
+
+-- the size of a whole text that a line can hold
+pub size_whole : (b i : List ℕ) {n : ℕ} → length b ≤ limit → length i ≤ limit → n ≡ min (size_of (length b) (length i)) (2 ^ 64 - 1)
+    → n ≡ length (whole_line b i) + 1
+size_whole b i {n} p q e = let most = whole_most b i in let one = whole_size b i in omega arith
+
+-- ---- two texts, from a place on
+
+module _ (s t : List ℕ) (i : ℕ) where
+  pub same_stop : i < length s → i < length t → (get_or s i 0 ≡ get_or t i 0 → ⊥) → same_bytes (drop i s) (drop i t) ≡ false
   unfolding same_bytes
-  at_last None None (x ∷ xs) ys s u t w e f a b h = absurd (e.0 u a)
-  at_last None (Some y) (x ∷ xs) ys s u t w e f a b h = absurd (e.0 u a)
-  at_last (Some x) None [] ys s u t w e f a b h = absurd (e x u a)
-  at_last (Some x) (Some y) [] ys s u t w e f a b h = absurd (e x u a)
-  at_last None None [] (y ∷ ys) s u t w e f a b h = absurd (f.0 w b)
-  at_last None (Some y) [] [] s u t w e f a b h = absurd (f y w b)
-  at_last (Some x) None (z ∷ xs) (y ∷ ys) s u t w e f a b h = absurd (f.0 w b)
-  at_last (Some x) (Some y) (z ∷ xs) [] s u t w e f a b h = absurd (f y w b)
-  at_last None None [] [] s u t w e f a b h = h
-  at_last None (Some y) [] (z ∷ ys) s u t w e f a b h = h
-  at_last (Some x) None (z ∷ xs) [] s u t w e f a b h = h.0
-  at_last (Some x) (Some y) (x' ∷ xs) (y' ∷ ys) s u t w e f a b h =
-      let differ : false ≡ eqb x' y' = sym h.1 ∙ agree x y ∙ ap₂ eqb (e.1 x u a).0 (f.1 y w b).0 in
-      h.0 ∙ ap (λ (k : Bool). k && same_bytes xs ys) differ
+  same_stop h k e = rw (here s i h, here t i k, ne_eqb (get_or s i 0) (get_or t i 0) e)
 
-  along : (cs bs : List A) (o p : Option A) (xs ys : List ℕ) (s u : S) (t w : T) → AlwaysYields steps v s xs → AlwaysYields others v t ys
-      → YieldsThen steps s cs o u → YieldsThen others t bs p w → AllZip (λ x y. eq x y ≡ true) cs bs → Last o p → r ≡ same_bytes xs ys
+  pub same_on : i < length s → i < length t → get_or s i 0 ≡ get_or t i 0 → same_bytes (drop i s) (drop i t) ≡ same_bytes (drop (i + 1) s) (drop (i + 1) t)
   unfolding same_bytes
-  along [] [] o p xs ys s u t w e f a b z h = at_last o p xs ys s u t w e f (subst (λ j. steps j o u) (sym a.1) a.2) (subst (λ j. others j p w) (sym b.1) b.2) h
-  along [] (y ∷ bs) o p xs ys s u t w e f a b z h = absurd z
-  along (x ∷ cs) [] o p xs ys s u t w e f a b z h = absurd z
-  along (x ∷ cs) (y ∷ bs) o p [] ys s u t w e f a b z h = absurd (e x a.1.0 a.1.1)
-  along (x ∷ cs) (y ∷ bs) o p (x' ∷ xs) [] s u t w e f a b z h = absurd (f y b.1.0 b.1.1)
-  along (x ∷ cs) (y ∷ bs) o p (x' ∷ xs) (y' ∷ ys) s u t w e f a b z h =
-      let m = e.1 x a.1.0 a.1.1 in
-      let n = f.1 y b.1.0 b.1.1 in
-      let tie : true ≡ eqb x' y' = sym z.0 ∙ agree x y ∙ ap₂ eqb m.0 n.0 in
-      along cs bs o p xs ys a.1.0 u b.1.0 w m.1 n.1 (a.0, a.1.2, a.2) (b.0, b.1.2, b.2) z.1 h ∙ ap (λ (k : Bool). k && same_bytes xs ys) tie
+  same_on h k e = rw (here s i h, here t i k, eq-eqb (get_or s i 0) (get_or t i 0) e)
 
--- `eq` of two iterators over bytes compares their lists
-pub same_from_eq : {S U T A : Type 0} {steps : S → Option A → S → Type 0} {others : T → Option A → T → Type 0} {v : A → ℕ} {s : S} {eq : A → A → Bool}
-    {xs ys : List ℕ} (becomes : U → T → Type 0) (other : U) (r : Bool) → ComparesItemsByEq steps becomes others s other eq r → YieldsList steps v s xs
-    → ((it : T) → becomes other it → YieldsList others v it ys) → ((x y : A) → eq x y ≡ eqb (v x) (v y)) → r ≡ same_bytes xs ys
-same_from_eq {steps = steps} {others = others} {v = v} {s = s} {eq = eq} {xs = xs} {ys = ys} becomes other r d e f agree =
-    along steps others v eq agree r d.1 d.2 d.3 d.4 xs ys s d.5 d.0 d.6 e.runs (f d.0 d.7).runs d.8 d.9 d.10 d.11
+  pub same_end : length s ≤ i → length t ≤ i → same_bytes (drop i s) (drop i t) ≡ true
+  unfolding same_bytes
+  same_end h k = rw (gone s i h, gone t i k)
 
--- a chain of three slices gives the three lists, one after the other
-pub chained : {s : Chain (Chain (Iter ℕ) (Iter ℕ)) (Iter ℕ)} {p : Chain (Iter ℕ) (Iter ℕ)} (x y z : List ℕ) → chain_first s ≡ p
-    → iter_rest (chain_first p) ≡ x → iter_rest (chain_second p) ≡ y → chain_first_done p ≡ false → chain_second_done p ≡ false
-    → iter_rest (chain_second s) ≡ z → chain_first_done s ≡ false → chain_second_done s ≡ false
-    → YieldsList (chain_steps (chain_steps fronts fronts) fronts) (λ v. v.now) s ((x ++ y) ++ z)
-chained {s} {p} x y z e a b ad bd d sa sb =
-    YieldsList-from_chain {s = s}
-    (subst (λ q. YieldsList (chain_steps fronts fronts) (λ v. v.now) q (x ++ y)) (sym e)
-    (YieldsList-from_chain {s = p} (YieldsList-from_slice {s = chain_first p} x a) (YieldsList-from_slice {s = chain_second p} y b) ad bd))
-    (YieldsList-from_slice {s = chain_second s} z d) sa sb
+-- ---- two texts that are split at one place
+
+-- the library's test of two slices
+pub slices_same : (s t : List ℕ) → pointwise eqb s t ≡ same_bytes s t
+unfolding same_bytes
+slices_same [] [] = refl
+slices_same [] (y ∷ t) = refl
+slices_same (x ∷ s) [] = refl
+slices_same (x ∷ s) (y ∷ t) = ap (λ (r : Bool). eqb x y && r) (slices_same s t)
+
+same_append : (s t u v : List ℕ) → length s ≡ length t → same_bytes (s ++ u) (t ++ v) ≡ (same_bytes s t && same_bytes u v)
+unfolding same_bytes
+same_append [] [] u v e = refl
+same_append [] (y ∷ t) u v e = absurd (omega arith)
+same_append (x ∷ s) [] u v e = absurd (omega arith)
+same_append (x ∷ s) (y ∷ t) u v e = ap (λ (r : Bool). eqb x y && r) (same_append s t u v (omega arith)) ∙ grouped (eqb x y) (same_bytes s t) (same_bytes u v)
+  where
+    grouped : (a b c : Bool) → (a && (b && c)) ≡ ((a && b) && c)
+    grouped true b c = refl
+    grouped false b c = refl
+
+pub same_split : (b i b' i' : List ℕ) → length b ≡ length b' → length i ≡ length i'
+    → (same_bytes b b' && same_bytes i i') ≡ same_bytes (whole_line b i) (whole_line b' i')
+unfolding whole_line pick
+same_split b i b' i' p q =
+    ap (λ (r : Bool). same_bytes b b' && r) (sym (tail (ℕ_discrete (length i) 0))) ∙ sym (same_append b b' (joined i) (joined i') p)
+  where
+    joined : List ℕ → List ℕ
+    joined t = pick (eqb (length t) 0) [] (separator ++ t)
+
+    tail : Dec (length i ≡ 0) → same_bytes (joined i) (joined i') ≡ same_bytes i i'
+    tail (yes z) = rw (eq-eqb (length i) 0 z, eq-eqb (length i') 0 (sym q ∙ z), empty_list i z, empty_list i' (sym q ∙ z)) refl
+    tail (no z) =
+        rw (ne_eqb (length i) 0 z, ne_eqb (length i') 0 (λ e. z (q ∙ e)))
+        (same_append separator separator i i' refl ∙ ap (λ (r : Bool). r && same_bytes i i') (list_same separator))
 
 -- ---- a line that is written
 
@@ -231,6 +256,9 @@ clipped_take s {n} e = split (dec_le limit (length s))
     split : Dec (limit ≤ length s) → take n s ≡ take limit s
     split (yes h) = ap (λ (k : ℕ). take k s) (let same : n ≡ limit = omega arith in same)
     split (no h) = take_all n s (omega arith) ∙ sym (take_all limit s (omega arith))
+
+pub taken_most : (s : List ℕ) {t : List ℕ} → t ≡ take limit s → length t ≤ limit
+taken_most s e = let long = length-take limit s in rw e (omega arith)
 
 -- a text that a line can hold is not clipped
 pub clipped_whole : (n : ℕ) (s : List ℕ) → take limit (take (min n limit) s) ≡ take (min n limit) s

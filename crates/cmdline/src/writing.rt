@@ -8,7 +8,7 @@
 //
 // The whole text of a line: checked, written, compared. A line is passed as its two texts, as the C functions find them
 // in the caller's bytes: a struct of two slices would be filled at each call and taken apart in each function.
-ghost use Rattle.std.specs.Prelude.{◌≡◌, [], ◌∷◌, ◌++◌, take};
+ghost use Rattle.std.specs.Prelude.{◌≡◌, [], ◌∷◌, ◌++◌, ◌≤◌, ◌<◌, length, get_or, take};
 ghost use Rattle.answers.specs.Tests.{pass, asked_all};
 ghost use Rattle.slugs.specs.Stored.{Stored};
 ghost use Rattle.cmdline.specs.Limit.{limit};
@@ -70,16 +70,41 @@ pub fn as_cstring(out: &mut [u8], boot: &[u8], init: &[u8]) -> Result<usize, Ref
     Ok(write(out, boot, init))
 }
 
-// Are two whole texts the same? Not `==` of slices: each is two texts, and what is written between them. Texts of
-// different sizes are not compared byte by byte.
+// The byte at a place of the whole text.
+fn byte_at(boot: &[u8], init: &[u8], at: usize) -> u8
+    requires { at < length (whole_line boot.now init.now) }
+    ensures { result ≡ get_or (whole_line boot.now init.now) at 0 }
+{
+    if at < boot.len() {
+        return boot[at];
+    }
+    let past = at - boot.len();
+    if past < 4 {
+        return b" -- "[past];
+    }
+    init[past - 4]
+}
+
+// Are two whole texts the same? Texts that are split at one place are compared as slices, and else byte by byte if they
+// have one size. A `for`: with `all` it took 1.5 times as long, and with `eq` of two chains of the parts twice.
 fn same_whole(boot: &[u8], init: &[u8], boot2: &[u8], init2: &[u8]) -> bool
+    requires { (length boot.now ≤ limit) × (length init.now ≤ limit) × (length boot2.now ≤ limit)
+        × (length init2.now ≤ limit) }
     ensures { result ≡ same_bytes (whole_line boot.now init.now) (whole_line boot2.now init2.now) }
 {
-    if sizes::size(boot.len(), init.len()) != sizes::size(boot2.len(), init2.len()) {
+    if boot.len() == boot2.len() && init.len() == init2.len() {
+        return boot == boot2 && init == init2;
+    }
+    let n = sizes::size(boot.len(), init.len());
+    if n != sizes::size(boot2.len(), init2.len()) {
         return false;
     }
-    let whole = boot.iter().chain(separator(init)).chain(init);
-    whole.eq(boot2.iter().chain(separator(init2)).chain(init2))
+    for i in 0..n - 1 {
+        if byte_at(boot, init, i) != byte_at(boot2, init2, i) {
+            return false;
+        }
+    }
+    true
 }
 
 // As much of a text as a line can hold.

@@ -8,7 +8,7 @@ use native.Mathlib.Omega.{arith}
 use lib.Dec.{leb, eqb}
 use lib.ListN.{length, get_or}
 use borrow.Author.Tests.{le-leb, lt-leb, leb-true, eqb-false}
-use Rattle.std.specs.List.{list_all, list_any}
+use Rattle.std.specs.List.{list_any}
 use Rattle.slugs.specs.Bytes.{blank, printable, all_bytes, has, space}
 
 -- ---- two tests
@@ -33,12 +33,7 @@ pub either_right : (a b : Bool) → a || b ≡ false → b ≡ false
 either_right true b e = absurd (eqb-false 0 0 e refl)
 either_right false b e = e
 
--- ---- the library's tests of every byte, and of some byte
-
-pub every_all : (p : ℕ → Bool) (s : List ℕ) → list_all p s ≡ all_bytes p s
-unfolding all_bytes
-every_all p [] = refl
-every_all p (x ∷ xs) = ap (λ (r : Bool). p x && r) (every_all p xs)
+-- ---- the library's test of some byte
 
 pub has_any : (b : ℕ) (s : List ℕ) → list_any (λ x. eqb x b) s ≡ has b s
 unfolding has
@@ -64,6 +59,30 @@ unfolding all_bytes
 every_append p [] t a b = b
 every_append p (x ∷ xs) t a b = rw (both_left (p x) (all_bytes p xs) a) (every_append p xs t (both_right (p x) (all_bytes p xs) a) b)
 
+-- in two parts
+pub every_part : (p : ℕ → Bool) (s t : List ℕ) → all_bytes p (s ++ t) ≡ (all_bytes p s && all_bytes p t)
+unfolding all_bytes
+every_part p [] t = refl
+every_part p (x ∷ s) t = ap (λ (r : Bool). p x && r) (every_part p s t) ∙ grouped (p x) (all_bytes p s) (all_bytes p t)
+  where
+    grouped : (a b d : Bool) → a && (b && d) ≡ (a && b) && d
+    grouped true b d = refl
+    grouped false b d = refl
+
+-- one byte more at the end
+pub every_more : (p : ℕ → Bool) (s : List ℕ) (x : ℕ) → all_bytes p (s ++ (x ∷ [])) ≡ (all_bytes p s && p x)
+unfolding all_bytes
+every_more p s x = every_part p s (x ∷ []) ∙ ap (λ (r : Bool). all_bytes p s && r) (and_one (p x))
+  where
+    and_one : (a : Bool) → a && true ≡ a
+    and_one true = refl
+    and_one false = refl
+
+pub every_none : (p : ℕ → Bool) (s : List ℕ) → length s ≡ 0 → all_bytes p s ≡ true
+unfolding all_bytes
+every_none p [] e = refl
+every_none p (x ∷ s) e = absurd (omega arith)
+
 -- ---- a byte among others
 
 pub has_not_at : (b : ℕ) (s : List ℕ) (i : ℕ) → has b s ≡ false → i < length s → eqb (get_or s i 0) b ≡ false
@@ -80,6 +99,16 @@ pub has_append : (b : ℕ) (s t : List ℕ) → has b (s ++ t) ≡ (has b s || h
 unfolding has
 has_append b [] t = refl
 has_append b (x ∷ xs) t = ap (λ (r : Bool). eqb x b || r) (has_append b xs t) ∙ or_assoc (eqb x b) (has b xs) (has b t)
+
+-- one byte more at the end
+pub has_more : (b : ℕ) (s : List ℕ) (x : ℕ) → has b (s ++ (x ∷ [])) ≡ (has b s || eqb x b)
+unfolding has
+has_more b [] x = or_none (eqb x b)
+  where
+    or_none : (a : Bool) → a || false ≡ a
+    or_none true = refl
+    or_none false = refl
+has_more b (y ∷ s) x = ap (λ (r : Bool). eqb y b || r) (has_more b s x) ∙ or_assoc (eqb y b) (has b s) (eqb x b)
 
 -- ---- a printable byte that is no space is not blank
 

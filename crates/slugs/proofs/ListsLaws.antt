@@ -51,7 +51,7 @@ module _ (es : List ℕ) (n : ℕ) where
   unfolding good_list pick
   list_none z = rw (eq-eqb (length es) 0 z)
 
-  list_some : (length es ≡ 0 → ⊥) → rising 0 es n ≡ good_list es n
+  pub list_some : (length es ≡ 0 → ⊥) → rising 0 es n ≡ good_list es n
   unfolding good_list pick
   list_some z = rw (ne_eqb (length es) 0 z)
 

@@ -25,10 +25,24 @@ pub fn is_printable(byte: u8) -> bool
     matches!(byte, 32..=126)
 }
 
+// Is every byte of a part printable? `part_is_printable` and `part_has` look at every byte, so that the compiler looks at
+// many in one step.
+fn part_is_printable(s: &[u8]) -> bool
+    ensures { result ≡ all_bytes printable s.now }
+{
+    s.iter().fold(true, |all, byte| all & is_printable(*byte))
+}
+
+// Part by part: the first part with a byte that is not printable ends the search.
 pub fn all_printable(s: &[u8]) -> bool
     ensures { result ≡ all_bytes printable s.now }
 {
-    s.iter().all(|byte| is_printable(*byte))
+    for part in s.chunks(64) {
+        if !part_is_printable(part) {
+            return false;
+        }
+    }
+    true
 }
 
 // Is the byte among those of s? `contains` looks at many bytes in one step.
@@ -36,4 +50,14 @@ pub fn has(s: &[u8], byte: u8) -> bool
     ensures { result ≡ has byte s.now }
 {
     s.contains(&byte)
+}
+
+// The same of a part of 64 bytes, for which `contains` took half as long again. Inlined, since the length is a constant
+// there.
+#[inline(always)]
+pub(crate) fn part_has(s: &[u8], byte: u8) -> bool
+    ensures { result ≡ has byte s.now }
+{
+    s.iter()
+        .fold(false, |found, other| found | (*other == byte))
 }

@@ -40,7 +40,7 @@ fn stride(s: &[u8], i: usize) -> usize
         return 1;
     }
     let part = &s[i + 1..i + 65];
-    if bytes::has(part, b'"') || bytes::has(part, b'-') {
+    if bytes::part_has(part, b'"') || bytes::part_has(part, b'-') {
         1
     } else {
         64

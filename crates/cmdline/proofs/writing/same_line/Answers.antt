@@ -3,6 +3,7 @@ use Rattle.std.proofs.Common.{◌∙◌, sym, refl, ap, take}
 use Rattle.std.specs.Prelude.{is_err}
 use Rattle.cmdline.specs.Limit.{limit}
 use Rattle.cmdline.specs.Writing.{bare}
+use Rattle.cmdline.proofs.WritingLaws.{taken_most}
 use Rattle.cmdline.proofs.EqualLines.{unequal_answers, refused_answers, accepted_answers}
 use Rattle.cmdline.proofs.writing.same_line.Goals as goal
 
@@ -35,3 +36,7 @@ returns-else-eq c =
     c.if-eq.false
     ∙ unequal_answers _ _ refl refl refl refl refl (bare (take limit args.boot.now) (take limit args.init.now))
     (bare (take limit args.boot2.now) (take limit args.init2.now)) (sym eq ∙ c.if-eq.false)
+
+pub same_whole-requires : goal.same_whole-requires
+same_whole-requires c =
+    (taken_most _ c.clipped-boot.ensures, taken_most _ c.clipped-init.ensures, taken_most _ c.clipped-boot2.ensures, taken_most _ c.clipped-init2.ensures)

@@ -1,34 +1,70 @@
--- `writing::same_whole`: texts of different sizes differ; the two chains give the whole texts.
-use Rattle.std.proofs.Common.{◌≡◌, ◌-◌, ◌^◌, ◌∙◌, ◌++◌, refl, ap}
-use Rattle.std.specs.Slice.Iter.{iter_rest}
-use Rattle.cmdline.specs.Writing.{same_bytes, whole_line}
-use Rattle.cmdline.proofs.WritingLaws.{sizes_differ, chained, same_from_eq, whole_parts}
+-- `writing::same_whole`: texts of different sizes differ; else the bytes before i are the same, so the rest decides.
+use Rattle.std.proofs.Common.{◌-◌, ◌^◌, ◌∙◌, Bool, ◌&&◌, ap, sym, arith}
+use Rattle.cmdline.specs.Writing.{whole_line, same_bytes}
+use Rattle.cmdline.proofs.WritingLaws.{slices_same, same_split, sizes_differ, size_whole, same_end, same_on, same_stop}
 use Rattle.cmdline.proofs.writing.same_whole.Goals as goal
+use Rattle.cmdline.proofs.writing.same_whole.Goals.{then-eq, else-eq}
 
-pub returns-then-size : goal.returns-then-size
-returns-then-size c =
+pub returns-then-init-init2 : goal.returns-then-init-init2
+returns-then-init-init2 c =
     let args = c.args in
-    sizes_differ args.boot.now args.init.now args.boot2.now args.init2.now (2 ^ 64 - 1) c.size.ensures c.size-2.ensures c.if-size.true
+    let inits = same_bytes args.init.now args.init2.now in
+    let boots = sym (slices_same args.boot.now args.boot2.now) ∙ sym c.eq.ensures in
+    let whole = same_split args.boot.now args.init.now args.boot2.now args.init2.now c.if-boot-boot2.true c.if-init-init2.true in
+    elim c.if-eq.branch [
+      | then-eq w ↦
+          w.result-is ∙ w.eq-then-eq.ensures ∙ slices_same args.init.now args.init2.now ∙ sym (ap (λ (r : Bool). r && inits) (boots ∙ w.if-eq.true)) ∙ whole
+      | else-eq w ↦ w.result-is ∙ w.if-eq.false ∙ sym (ap (λ (r : Bool). r && inits) (boots ∙ w.if-eq.false)) ∙ whole
+    ]
+
+pub returns-then-n-size : goal.returns-then-n-size
+returns-then-n-size c =
+    let args = c.args in
+    sizes_differ args.boot.now args.init.now args.boot2.now args.init2.now (2 ^ 64 - 1) c.size-n.ensures c.size.ensures c.if-n-size.true
+
+pub overflow_sub-i-end : goal.overflow_sub-i-end
+overflow_sub-i-end c =
+    let args = c.args in
+    let long = size_whole args.boot.now args.init.now c.requires.0 c.requires.1 c.size-n.ensures in
+    omega arith
+
+pub byte_at-requires : goal.byte_at-requires
+byte_at-requires c =
+    let args = c.args in
+    let long = size_whole args.boot.now args.init.now c.requires.0 c.requires.1 c.size-n.ensures in
+    omega arith
+
+pub byte_at-requires-in-loop-i : goal.byte_at-requires-in-loop-i
+byte_at-requires-in-loop-i c =
+    let args = c.args in
+    let long = size_whole args.boot2.now args.init2.now c.requires.2 c.requires.3 (c.if-n-size.false ∙ c.size.ensures) in
+    omega arith
+
+pub returns-then-byte_at : goal.returns-then-byte_at
+returns-then-byte_at c =
+    let args = c.args in
+    let turn = c.loop-i in
+    let long = size_whole args.boot.now args.init.now c.requires.0 c.requires.1 c.size-n.ensures in
+    let long2 = size_whole args.boot2.now args.init2.now c.requires.2 c.requires.3 (c.if-n-size.false ∙ c.size.ensures) in
+    sym
+    (turn.invariant
+    ∙ same_stop (whole_line args.boot.now args.init.now) (whole_line args.boot2.now args.init2.now) turn.i (omega arith) (omega arith)
+    (λ e. c.if-byte_at.true (c.byte_at.ensures ∙ e ∙ sym c.byte_at-in-loop-i.ensures)))
+
+pub loop-i-preserved : goal.loop-i-preserved
+loop-i-preserved c =
+    let args = c.args in
+    let turn = c.loop-i in
+    let long = size_whole args.boot.now args.init.now c.requires.0 c.requires.1 c.size-n.ensures in
+    let long2 = size_whole args.boot2.now args.init2.now c.requires.2 c.requires.3 (c.if-n-size.false ∙ c.size.ensures) in
+    turn.invariant
+    ∙ same_on (whole_line args.boot.now args.init.now) (whole_line args.boot2.now args.init2.now) turn.i (omega arith) (omega arith)
+    (sym c.byte_at.ensures ∙ c.if-byte_at.false ∙ c.byte_at-in-loop-i.ensures)
 
 pub returns : goal.returns
 returns c =
-    let boot = c.args.boot.now in
-    let init = c.args.init.now in
-    let boot2 = c.args.boot2.now in
-    let init2 = c.args.init2.now in
-    let start = c.chain.ensures in
-    let all = c.chain-whole.ensures in
-    let start2 = c.chain-2.ensures in
-    let all2 = c.chain-3.ensures in
-    let whole =
-    chained boot c.separator.result.now init all.first (ap iter_rest start.first ∙ c.iter.ensures.rest) start.second.0 start.first_done start.second_done
-    all.second.0 all.first_done all.second_done in
-    let whole2 =
-    chained boot2 c.separator-2.result.now init2 all2.first (ap iter_rest start2.first ∙ c.iter-2.ensures.rest) start2.second.0 start2.first_done
-    start2.second_done all2.second.0 all2.first_done all2.second_done in
-    let same = same_from_eq (λ x y. y ≡ x) _ c.eq.result c.eq.ensures.ran whole (λ it e. rw e whole2) (λ x y. refl) in
-    same
-    ∙ ap (λ s. same_bytes ((boot ++ s) ++ init) ((boot2 ++ c.separator-2.result.now) ++ init2)) c.separator.ensures
-    ∙ ap (λ s. same_bytes s ((boot2 ++ c.separator-2.result.now) ++ init2)) (whole_parts boot init)
-    ∙ ap (λ s. same_bytes (whole_line boot init) ((boot2 ++ s) ++ init2)) c.separator-2.ensures
-    ∙ ap (λ s. same_bytes (whole_line boot init) s) (whole_parts boot2 init2)
+    let args = c.args in
+    let end = c.loop-i in
+    let long = size_whole args.boot.now args.init.now c.requires.0 c.requires.1 c.size-n.ensures in
+    let long2 = size_whole args.boot2.now args.init2.now c.requires.2 c.requires.3 (c.if-n-size.false ∙ c.size.ensures) in
+    sym (end.invariant ∙ same_end (whole_line args.boot.now args.init.now) (whole_line args.boot2.now args.init2.now) end.i (omega arith) (omega arith))
