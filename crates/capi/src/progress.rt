@@ -70,7 +70,8 @@ fn head(kept: Kept) -> [u64; 10]
     ]
 }
 
-// Writes what is kept into a list.
+// Writes what is kept into a list. Inlined, as `saved::write` is, which calls it.
+#[inline(always)]
 pub(crate) fn write(numbers: &mut [u64], kept: Kept)
     ensures { numbers.new ≡ with_kept kept numbers.old }
 {

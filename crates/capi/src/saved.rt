@@ -92,7 +92,8 @@ pub(crate) fn read(numbers: &[u64], out: &[u64]) -> Result<State, Refusal>
     })
 }
 
-// Writes a state into a list.
+// Writes a state into a list. Inlined, so that a state that is not started is written as constants.
+#[inline(always)]
 pub(crate) fn write(numbers: &mut [u64], state: State)
     ensures { numbers.new ≡ with_state state numbers.old }
 {
